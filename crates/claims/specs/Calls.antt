@@ -1,0 +1,28 @@
+-- The three calls as one: which call it is, what it is lent, and its outcome.
+-- Assumes nothing: these are definitions.
+use Prim.Native.Nat.{ℕ}
+use mathlib.Core.List.{List, []}
+use Rattle.forest.specs.Lent.{Input, Room, Outcome}
+use Rattle.forest.specs.Validate.{validate}
+use Rattle.forest.specs.Canonicalize.{canonicalize}
+use Rattle.forest.specs.Merge.{merge}
+
+-- Merge takes its depth limit along
+pub data Call : Type 0 where
+  validating canonicalizing : Call
+  merging : ℕ → Call
+
+-- Validate is lent no room
+unfoldable pub noRoom : Room
+noRoom = record { nodes = []; roots = []; ids = []; work = [] }
+
+-- of a room, what is lent to the call
+unfoldable pub lent : Call → Room → Room
+lent validating m = noRoom
+lent canonicalizing m = m
+lent (merging limit) m = m
+
+unfoldable pub outcome : Call → Input → Room → Outcome
+outcome validating i m = record { reply = validate (i .nodes); room = noRoom }
+outcome canonicalizing i m = canonicalize i m
+outcome (merging limit) i m = merge limit i m

@@ -1,0 +1,9 @@
+pub mod Lists
+pub mod Reply
+pub mod Lent
+pub mod Graph
+pub mod Walk
+pub mod Order
+pub mod Validate
+pub mod Canonicalize
+pub mod Merge

@@ -1,0 +1,4 @@
+pub mod Lists
+pub mod Number
+pub mod Order
+pub mod Node
