@@ -1,2 +1,11 @@
+pub mod Searches
+pub mod Distinct
+pub mod Sorts
+pub mod Checks
+pub mod Paths
+pub mod Children
+pub mod Walks
+pub mod PathLaws
+pub mod Ranges
 pub mod Calls
 pub mod Examples

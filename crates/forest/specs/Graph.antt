@@ -5,9 +5,9 @@ use mathlib.Core.Bool.{Bool, true, false, not, _&&_}
 use mathlib.Core.List.{List, [], _∷_, _++_, map}
 use mathlib.Core.Option.{Option, some, none}
 use lib.Dec.{leb, ltb}
-use lib.ListN.{take, drop, getD}
+use lib.ListN.{take, drop, getD, replicate}
 use Rattle.record.specs.Lists.{same, flat}
-use Rattle.record.specs.Node.{isExternal, children, renumber}
+use Rattle.record.specs.Node.{fields, words, isExternal, children, renumber}
 use Rattle.record.specs.declared.Node.{Node}
 use Rattle.record.specs.declared.Row.{Row}
 use Rattle.forest.specs.Lists.{lowest, highest, lastOf, firstSome}
@@ -44,9 +44,9 @@ farKid n m = lastOf (leb n) (children m)
 unfoldable pub farChild : List Forest → Option (ℕ × ℕ)
 farChild fs = firstSome 0 (flat (λ f. map (farKid (f .count)) (f .nodes)) fs)
 
--- what stands where no node is
+-- what stands where no node is: a block
 unfoldable pub noNode : Node
-noNode = record { kind = 1; count = 0; kids = []; digest = [] }
+noNode = record { kind = 1; count = 0; kids = replicate fields 0; digest = replicate words 0 }
 
 -- the node at position p
 unfoldable pub at : List Node → ℕ → Node

@@ -1,0 +1,4 @@
+pub mod Basics
+pub mod Orders
+pub mod RoundTrip
+pub mod Nodes
