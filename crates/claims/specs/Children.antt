@@ -5,18 +5,14 @@ use mathlib.Core.Path.{_≡_}
 use mathlib.Core.Bool.{true}
 use mathlib.Core.List.{List, List·Memᴰ, List·Memᴰ·not-nil}
 use mathlib.Core.Logic.{_⊎_, inl, inr}
-use mathlib.Core.Option.{none}
 use native.Mathlib.Omega.{arith}
 use native.Mathlib.Decide.{decLt}
 use lib.ListN.{length, List·getD-eq-default}
-use Rattle.record.specs.Node.{nodesOf, isInternal, bad, children}
+use Rattle.record.specs.Node.{isInternal, children}
 use Rattle.record.specs.declared.Node.{Node}
-use Rattle.record.proofs.Nodes.{good-internal}
 use Rattle.forest.specs.Graph.{noNode, at}
-use Rattle.forest.specs.Validate.{badRecord}
-use Rattle.claims.specs.Checks.{naming-none}
 use Rattle.claims.specs.Paths.{HasChild}
-use Rattle.claims.specs.Searches.{lowest-none, getD-in}
+use Rattle.claims.specs.Searches.{getD-in}
 
 -- what has a child is a node of the graph
 pub parent-in : (g : List Node) (p c : ℕ) → HasChild g p c → List·Memᴰ (at g p) g
@@ -42,8 +38,3 @@ parent-below g p c k = go (decLt p (length g))
 -- only internals have children
 unfoldable pub Bare : List Node → Type 0
 Bare g = (p c : ℕ) → HasChild g p c → isInternal (at g p) ≡ true
-
--- so it is where no record is bad
-pub records-bare : (b : List ℕ) → badRecord b ≡ none → Bare (nodesOf b)
-unfolding Bare badRecord
-records-bare b e p c k = good-internal (at (nodesOf b) p) (lowest-none bad (nodesOf b) (naming-none _ _ e) _ (parent-in (nodesOf b) p c k)) c k

@@ -7,5 +7,12 @@ pub mod Children
 pub mod Walks
 pub mod PathLaws
 pub mod Ranges
+pub mod WalkInduction
+pub mod Sound
+pub mod Origins
+pub mod Settled
+pub mod Cycles
+pub mod Limits
+pub mod Rooms
 pub mod Calls
 pub mod Examples

@@ -96,7 +96,7 @@ module _ {A : Type 0} where
       go true none ih h = let v : 0 ≡ q = cc in omega arith
       go false none ih h = absurd (clash (cc))
 
-  lowest-lt : (t : A → Bool) (l : List A) (i : ℕ) → lowest t l ≡ some i → i < length l
+  pub lowest-lt : (t : A → Bool) (l : List A) (i : ℕ) → lowest t l ≡ some i → i < length l
   unfolding lowest
   lowest-lt t [] i e = absurd (clash (cc))
   lowest-lt t (x ∷ l) i e = go (hereOr-some (t x) (lowest t l) i e) (lowest-lt t l)
@@ -127,11 +127,11 @@ lowest-run t a (suc n) i e = go (hereOr-some (t a) (lowest t (run (suc a) n)) i 
     go (inl (h, z)) ih = (ap t (let q : a + i ≡ a = omega arith in q) ∙ h, omega arith)
     go (inr (j, k, z)) ih = let (u, v) = ih j k in (ap t (let q : a + i ≡ suc a + j = omega arith in q) ∙ u, omega arith)
 
-lowest-ids : (t : ℕ → Bool) (n p : ℕ) → lowest t (run 0 n) ≡ some p → (t p ≡ true) × (p < n)
+pub lowest-ids : (t : ℕ → Bool) (n p : ℕ) → lowest t (run 0 n) ≡ some p → (t p ≡ true) × (p < n)
 lowest-ids t n p e = let (u, v) = lowest-run t 0 n p e in (ap t (let q : p ≡ 0 + p = omega arith in q) ∙ u, v)
 
 -- the search in a run finds the first number at which the test passes
-lowest-at : (t : ℕ → Bool) (a n k : ℕ) → ((x : ℕ) → x < a + k → t x ≡ false) → t (a + k) ≡ true → k < n → lowest t (run a n) ≡ some k
+pub lowest-at : (t : ℕ → Bool) (a n k : ℕ) → ((x : ℕ) → x < a + k → t x ≡ false) → t (a + k) ≡ true → k < n → lowest t (run a n) ≡ some k
 unfolding lowest run hereOr
 lowest-at t a zero k f e h = absurd (omega arith)
 lowest-at t a (suc n) zero f e h = let q : a + 0 ≡ a = omega arith in rw (rw q at e)

@@ -1,0 +1,72 @@
+-- Demand 3: what Cycle, TooDeep and any other answer of a merge say of the joined graph.
+-- Assumes nothing.
+use Prim.Native.Nat.{ℕ, _≤_}
+use mathlib.Core.Path.{_≡_, refl}
+use mathlib.Core.Logic.{_≢_}
+use mathlib.Core.Option.{none}
+use native.Mathlib.Omega.{arith}
+use Rattle.forest.specs.Canonicalize.{rootRange, childRange}
+use Rattle.forest.specs.Graph.{farRoot, farChild}
+use Rattle.forest.specs.Lent.{Input, Room, refuse, first}
+use Rattle.forest.specs.Merge.{nodeSum, forestsOf, graph, rootsOf, mergeChecks, merge}
+use Rattle.forest.specs.Validate.{badRecord}
+use Rattle.forest.specs.Walk.{Walked, going, cycle, deep, walk}
+use Rattle.forest.specs.declared.Reply.the-variants.{Cycle, TooDeep}
+use Rattle.claims.specs.Checks.{first-none, naming-none}
+use Rattle.claims.specs.PathLaws.{cycle-cycle, deep-long, going-acyclic}
+use Rattle.claims.specs.Paths.{CycleReached, LongPath}
+use Rattle.claims.specs.Ranges.{Bounded, long-below, forests-bounded}
+use Rattle.claims.specs.Settled.{settled, past-checks, settled-cycle, settled-deep}
+use Rattle.claims.specs.Walks.{walk-why}
+
+-- the checks of limit, sizes, records and ranges are passed
+abbrev pub Passes : ℕ → Input → Room → Type 0
+Passes limit i m = first (mergeChecks limit i m) ≡ none
+
+-- what the checks found of records and ranges
+pub record Checked (i : Input) : Type 0 where
+  pub good : badRecord (i .nodes) ≡ none
+  pub near-roots : farRoot (forestsOf i) ≡ none
+  pub near-children : farChild (forestsOf i) ≡ none
+
+pub checked : (limit : ℕ) (i : Input) (m : Room) → Passes limit i m → Checked i
+unfolding mergeChecks rootRange childRange
+checked limit i m e =
+    let e1 = (first-none _ _ e) .1 in
+    let e2 = (first-none _ _ e1) .1 in
+    let e3 = (first-none _ _ e2) .1 in
+    let e4 = (first-none _ _ e3) .1 in
+    let e5 = (first-none _ _ e4) .1 in
+    let e6 = (first-none _ _ e5) .1 in
+    let e7 = (first-none _ _ e6) .1 in
+    let e8 = (first-none _ _ e7) .1 in
+    let e9 = (first-none _ _ e8) .1 in
+    record { good = (first-none _ _ e7) .0; near-roots = naming-none _ _ ((first-none _ _ e8) .0); near-children = naming-none _ _ ((first-none _ _ e9) .0) }
+
+-- positions, children and roots stay below the node count
+pub bounded : (limit : ℕ) (i : Input) (m : Room) → Passes limit i m → Bounded (nodeSum (i .table)) (graph i) (rootsOf i)
+unfolding nodeSum graph rootsOf forestsOf
+bounded limit i m past = let c = checked limit i m past in forests-bounded _ _ _ (c .near-roots) (c .near-children)
+
+module _ (limit : ℕ) (i : Input) (m : Room) (past : Passes limit i m) where
+  -- Cycle only if a cycle can be reached from some root; the node that is named lies on it
+  pub cycle-only-if : (p : ℕ) → (merge limit i m) .reply ≡ Cycle p → (c : CycleReached (graph i) (rootsOf i)) × (c .on ≡ p)
+  cycle-only-if p e = cycle-cycle (settled-cycle i m p _ (rw (past-checks limit i m past) at e)) (walk-why (graph i) (rootsOf i) limit)
+
+  -- TooDeep only if a path from a root holds more distinct nodes than the limit
+  pub deep-only-if : (p : ℕ) → (merge limit i m) .reply ≡ TooDeep p → LongPath (graph i) (rootsOf i) limit
+  deep-only-if p e = deep-long (settled-deep i m p _ (rw (past-checks limit i m past) at e)) (walk-why (graph i) (rootsOf i) limit)
+
+  -- otherwise no cycle can be reached
+  pub otherwise-none : ((p : ℕ) → (merge limit i m) .reply ≢ Cycle p) → ((p : ℕ) → (merge limit i m) .reply ≢ TooDeep p) → ¬ CycleReached (graph i) (rootsOf i)
+  unfolding settled refuse
+  otherwise-none a b = go (walk (graph i) limit (rootsOf i)) refl
+    where
+      go : (w : Walked) → walk (graph i) limit (rootsOf i) ≡ w → ¬ CycleReached (graph i) (rootsOf i)
+      go (going s) e = going-acyclic e (walk-why (graph i) (rootsOf i) limit)
+      go (cycle p) e = absurd (a p (rw (past-checks limit i m past, e)))
+      go (deep p) e = absurd (b p (rw (past-checks limit i m past, e)))
+
+  -- with a limit of at least the node count TooDeep never comes
+  pub never-deep : nodeSum (i .table) ≤ limit → (p : ℕ) → (merge limit i m) .reply ≢ TooDeep p
+  never-deep h p e = let k = long-below _ _ _ (bounded limit i m past) limit (deep-only-if p e) in omega arith
