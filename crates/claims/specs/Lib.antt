@@ -14,5 +14,12 @@ pub mod Settled
 pub mod Cycles
 pub mod Limits
 pub mod Rooms
+pub mod Releases
+pub mod Externals
+pub mod Refusals
+pub mod Outcomes
+pub mod Accepting
+pub mod Passing
+pub mod Again
 pub mod Calls
 pub mod Examples

@@ -147,7 +147,7 @@ firstSome-none i (none ∷ l) e o (List·Memᴰ·head h) = h
 firstSome-none i (none ∷ l) e o (List·Memᴰ·tail m) = firstSome-none (suc i) l e o m
 firstSome-none i (some c ∷ l) e o m = absurd (clash (cc))
 
-none-firstSome : (i : ℕ) (l : List (Option ℕ)) → ((o : Option ℕ) → List·Memᴰ o l → o ≡ none) → firstSome i l ≡ none
+pub none-firstSome : (i : ℕ) (l : List (Option ℕ)) → ((o : Option ℕ) → List·Memᴰ o l → o ≡ none) → firstSome i l ≡ none
 unfolding firstSome
 none-firstSome i [] h = refl
 none-firstSome i (none ∷ l) h = none-firstSome (suc i) l (λ o m. h o (List·Memᴰ·tail m))

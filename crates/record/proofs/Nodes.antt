@@ -30,17 +30,27 @@ classes n = go (classOf (n .kind)) refl
     go block e = inr (inl (rw e))
     go internal e = inr (inr (rw e))
 
-pub rank-external : (n : Node) → isExternal n ≡ true → rank (class n) ≡ 0
+-- the classes' tests, by the rank
+pub external-rank : (n : Node) → isExternal n ≡ eqb (rank (class n)) 0
 unfolding isExternal rank
-rank-external n e = eqb-true _ _ e
+external-rank n = refl
+
+pub block-rank : (n : Node) → isBlock n ≡ eqb (rank (class n)) 1
+unfolding isBlock rank
+block-rank n = refl
+
+pub internal-rank : (n : Node) → isInternal n ≡ eqb (rank (class n)) 2
+unfolding isInternal rank
+internal-rank n = refl
+
+pub rank-external : (n : Node) → isExternal n ≡ true → rank (class n) ≡ 0
+rank-external n e = eqb-true _ _ (sym (external-rank n) ∙ e)
 
 pub rank-block : (n : Node) → isBlock n ≡ true → rank (class n) ≡ 1
-unfolding isBlock rank
-rank-block n e = eqb-true _ _ e
+rank-block n e = eqb-true _ _ (sym (block-rank n) ∙ e)
 
 pub rank-internal : (n : Node) → isInternal n ≡ true → rank (class n) ≡ 2
-unfolding isInternal rank
-rank-internal n e = eqb-true _ _ e
+rank-internal n e = eqb-true _ _ (sym (internal-rank n) ∙ e)
 
 pub not-both : (n : Node) → isExternal n ≡ true → isBlock n ≡ true → ⊥
 not-both n a b = let x = rank-external n a in let y = rank-block n b in omega arith
