@@ -5,6 +5,7 @@ use mathlib.Core.Path.{_≡_, refl}
 use mathlib.Core.Logic.{_≢_}
 use mathlib.Core.Option.{none}
 use native.Mathlib.Omega.{arith}
+use Rattle.record.proofs.Nodes.{good}
 use Rattle.forest.specs.Canonicalize.{rootRange, childRange}
 use Rattle.forest.specs.Graph.{farRoot, farChild}
 use Rattle.forest.specs.Lent.{Input, Room, refuse, first}

@@ -1,3 +1,5 @@
+pub mod Calls
+pub mod Examples
 pub mod Searches
 pub mod Distinct
 pub mod Sorts
@@ -14,12 +16,10 @@ pub mod Settled
 pub mod Cycles
 pub mod Limits
 pub mod Rooms
-pub mod Releases
-pub mod Externals
 pub mod Refusals
 pub mod Outcomes
+pub mod Releases
+pub mod Externals
 pub mod Accepting
 pub mod Passing
 pub mod Again
-pub mod Calls
-pub mod Examples

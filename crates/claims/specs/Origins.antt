@@ -11,8 +11,8 @@ use Rattle.record.specs.Lists.{run, flat}
 use Rattle.record.specs.Node.{size, nodeAt, nodesOf, nodeBytes, rowsOf, class, isInternal, bad, children, renumber}
 use Rattle.record.specs.declared.Node.{Node}
 use Rattle.record.specs.declared.Row.{Row}
+use Rattle.record.proofs.Lengths.{Full}
 use Rattle.record.proofs.Nodes.{child-from, good-internal, full-read, full-renumber, length-records}
-use Rattle.record.proofs.RoundTrip.{Full}
 use Rattle.forest.specs.Canonicalize.{canonical}
 use Rattle.forest.specs.Graph.{Forest, forests, joined, noNode, at}
 use Rattle.forest.specs.Lent.{Input}

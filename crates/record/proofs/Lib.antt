@@ -1,4 +1,10 @@
 pub mod Basics
+pub mod Numbers
+pub mod Lengths
 pub mod Orders
 pub mod RoundTrip
 pub mod Nodes
+pub mod Readings
+pub mod Puts
+pub mod Compares
+pub mod Rules

@@ -8,15 +8,16 @@ use mathlib.Core.Logic.{_⊎_, inl, inr}
 use native.Mathlib.Omega.{arith}
 use native.Mathlib.Nat.{pow-suc, pow-le-pow-right}
 use lib.Dec.{ltb, eqb}
-use borrow.Author.Tests.{ltb-false, eqb-true}
+use borrow.Author.Tests.{ltb-false, eqb-true, not-false}
 use lib.ListN.{length, take, drop, length-append, length-take, length-drop, length-map}
 use lib.Seq.{drop-at}
-use Rattle.record.specs.Lists.{run, flat}
+use Rattle.record.specs.Lists.{run, all, flat}
 use Rattle.record.specs.Node.{fields, words, size, lastKind, recordAt, nodeAt, nodesOf, nodeBytes, Class, external, block, internal, classOf, rank, class, isExternal, isBlock, isInternal, bad, children, renumber}
 use Rattle.record.specs.Number.{le, number, numbers}
 use Rattle.record.specs.declared.Node.{Node}
 use Rattle.record.proofs.Basics.{clash, either-false}
-use Rattle.record.proofs.RoundTrip.{Octets, Within, Full, Fits, length-numbers, length-nodeBytes, record-back}
+use Rattle.record.proofs.Lengths.{length-numbers, length-run, Full, length-nodeBytes}
+use Rattle.record.proofs.RoundTrip.{Octets, Within, Fits, record-back}
 
 -- CLASSES -----------------------------------------------------------------------------------------
 
@@ -85,9 +86,24 @@ children-renumber f n = go (n .count) (n .kids)
 pub child-from : (f : ℕ → ℕ) (n : Node) (c : ℕ) → List·Memᴰ c (children (renumber f n)) → (x : ℕ) × List·Memᴰ x (children n) × (f x ≡ c)
 child-from f n c m = Memᴰ·of-map f (children n) (rw (children-renumber f n) at m)
 
+-- what a record that is not bad passed
+pub record Good (n : Node) : Type 0 where
+  pub kind-low : n .kind ≤ lastKind
+  pub count-few : n .count ≤ fields
+  pub childless : (not (isInternal n) && ltb 0 (n .count)) ≡ false
+  pub unused-zero : all (eqb 0) (drop (n .count) (n .kids)) ≡ true
+
+pub good : (n : Node) → bad n ≡ false → Good n
+unfolding bad
+good n e =
+    let (abc, d) = either-false _ (not (all (eqb 0) (drop (n .count) (n .kids)))) e in
+    let (ab, c) = either-false _ (not (isInternal n) && ltb 0 (n .count)) abc in
+    let (a, b) = either-false (ltb lastKind (n .kind)) (ltb fields (n .count)) ab in
+    record { kind-low = ltb-false _ _ a; count-few = ltb-false _ _ b; childless = c; unused-zero = not-false _ d }
+
 -- a node that is not bad has children only if it is internal
 pub good-internal : (n : Node) → bad n ≡ false → (c : ℕ) → List·Memᴰ c (children n) → isInternal n ≡ true
-unfolding bad children
+unfolding children
 good-internal n e c m = go (isInternal n) refl
   where
     none-have : (k : ℕ) → ltb 0 k ≡ false → List·Memᴰ c (take k (n .kids)) → ⊥
@@ -96,18 +112,7 @@ good-internal n e c m = go (isInternal n) refl
 
     go : (b : Bool) → isInternal n ≡ b → isInternal n ≡ true
     go true q = q
-    go false q =
-        let e1 = (either-false (ltb lastKind (n .kind)) _ e) .1 in
-        let e2 = (either-false (ltb fields (n .count)) _ e1) .1 in
-        let e3 = (either-false (not (isInternal n) && ltb 0 (n .count)) _ e2) .0 in
-        absurd (none-have (n .count) (rw q at e3) m)
-
--- a node that is not bad has no more children than fields
-pub good-count : (n : Node) → bad n ≡ false → n .count ≤ fields
-unfolding bad
-good-count n e =
-    let e1 = (either-false (ltb lastKind (n .kind)) _ e) .1 in
-    ltb-false _ _ ((either-false (ltb fields (n .count)) _ e1) .0)
+    go false q = absurd (none-have (n .count) (let z = (good n e) .childless in rw q at z) m)
 
 -- renumbering makes no node bad
 pub bad-renumber : (f : ℕ → ℕ) (n : Node) → length (n .kids) ≡ fields → bad n ≡ false → bad (renumber f n) ≡ false
@@ -115,7 +120,7 @@ unfolding bad renumber isInternal class children
 bad-renumber f n l e = rw (drop-at (map f (take (n .count) (n .kids))) (drop (n .count) (n .kids)) (n .count) counted) e
   where
     counted : length (map f (take (n .count) (n .kids))) ≡ n .count
-    counted = let h = good-count n e in simp length-map (omega (arith, length-take (n .count) (n .kids)))
+    counted = let h = (good n e) .count-few in simp length-map (omega (arith, length-take (n .count) (n .kids)))
 
 -- FITS --------------------------------------------------------------------------------------------
 
@@ -194,11 +199,6 @@ fits-renumber f n t h = record {
     each x (inr m) = t .kids-fit x (drop-from (n .count) (n .kids) x m)
 
 -- ALL RECORDS -------------------------------------------------------------------------------------
-
-pub length-run : (a n : ℕ) → length (run a n) ≡ n
-unfolding run
-length-run a zero = refl
-length-run a (suc n) = ap suc (length-run (suc a) n)
 
 pub length-nodesOf : (s : List ℕ) → length (nodesOf s) ≡ length s / size
 unfolding nodesOf

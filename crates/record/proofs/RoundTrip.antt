@@ -1,7 +1,7 @@
 -- Records written and read again: reading back what was written gives the same node.
 -- Assumes nothing.
 use Prim.Native.Nat.{ℕ, zero, suc, _+_, _*_, _^_, _/_, _<_, _≤_}
-use mathlib.Core.Path.{_≡_, refl, sym, ap}
+use mathlib.Core.Path.{_≡_, refl, sym}
 use mathlib.Core.List.{List, [], _∷_, _++_, List·Memᴰ, List·Memᴰ·head, List·Memᴰ·tail, append-assoc}
 use native.Mathlib.Omega.{arith}
 use lib.ListN.{length, take, length-append, length-take}
@@ -10,6 +10,7 @@ use Rattle.record.specs.Lists.{over, flat}
 use Rattle.record.specs.Node.{fields, words, size, recordAt, nodeAt, nodeBytes}
 use Rattle.record.specs.Number.{le, number, numbers, bytes}
 use Rattle.record.specs.declared.Node.{Node}
+use Rattle.record.proofs.Lengths.{length-bytes, length-words, Full}
 
 -- a list of bytes
 abbrev pub Octets : List ℕ → Type 0
@@ -19,11 +20,6 @@ Octets l = (x : ℕ) → List·Memᴰ x l → x < 256
 abbrev pub Within : ℕ → List ℕ → Type 0
 Within k l = (x : ℕ) → List·Memᴰ x l → x < 256 ^ k
 
--- as many child fields and digest words as a record has
-pub record Full (n : Node) : Type 0 where
-  pub kids-long : length (n .kids) ≡ fields
-  pub digest-long : length (n .digest) ≡ words
-
 -- what the struct's fields can hold, bad or not
 pub record Fits (n : Node) : Type 0 where
   pub full : Full n
@@ -31,33 +27,6 @@ pub record Fits (n : Node) : Type 0 where
   pub count-fits : n .count < 256 ^ 4
   pub kids-fit : Within 4 (n .kids)
   pub digest-fits : Within 8 (n .digest)
-
--- LENGTHS -----------------------------------------------------------------------------------------
-
-pub length-bytes : (k x : ℕ) → length (bytes k x) ≡ k
-unfolding bytes
-length-bytes zero x = refl
-length-bytes (suc k) x = ap suc (length-bytes k (x / 256))
-
-pub length-flat : {A : Type 0} (f : A → List ℕ) (k : ℕ) → ((x : A) → length (f x) ≡ k) → (l : List A) → length (flat f l) ≡ k * length l
-unfolding flat
-length-flat f k h [] = omega arith
-length-flat f k h (x ∷ l) = simp (length-append, h x, length-flat f k h l) (omega arith)
-
-pub length-numbers : (k n : ℕ) (s : List ℕ) (at : ℕ) → length (numbers k n s at) ≡ n
-unfolding numbers
-length-numbers k zero s at = refl
-length-numbers k (suc n) s at = ap suc (length-numbers k n s (at + k))
-
--- the record of a node with all its fields has the size of a record
-pub length-nodeBytes : (n : Node) → Full n → length (nodeBytes n) ≡ size
-unfolding nodeBytes
-length-nodeBytes n f =
-    let a = f .kids-long in
-    let b = f .digest-long in
-    let p = length-flat (bytes 4) 4 (length-bytes 4) (n .kids) in
-    let q = length-flat (bytes 8) 8 (length-bytes 8) (n .digest) in
-    simp (length-append, length-bytes) (omega arith)
 
 -- WRITTEN, THEN READ ------------------------------------------------------------------------------
 
@@ -95,7 +64,7 @@ record-back n f p r at e =
     let d : List ℕ = flat (bytes 8) (n .digest) in
     let la : length a ≡ 4 = length-bytes 4 (n .kind) in
     let lb : length b ≡ 4 = length-bytes 4 (n .count) in
-    let lc : length c ≡ 4 * length (n .kids) = length-flat (bytes 4) 4 (length-bytes 4) (n .kids) in
+    let lc : length c ≡ 4 * length (n .kids) = length-words 4 (n .kids) in
     let lk : length (n .kids) ≡ fields = f .full .kids-long in
     let whole : (a ++ (b ++ (c ++ d))) ++ r ≡ a ++ (b ++ (c ++ (d ++ r))) = simp append-assoc in
     let ek : number 4 (p ++ (a ++ (b ++ (c ++ (d ++ r))))) at ≡ n .kind = number-back p 4 at e (n .kind) _ (f .kind-fits) in

@@ -86,7 +86,7 @@ isInternal n = eqb (rank (class n)) (rank internal)
 
 -- a kind past the last, too many children, an external or block with a child, or a child field at or past the count that is not 0
 unfoldable pub bad : Node → Bool
-bad n = ltb lastKind (n .kind) || (ltb fields (n .count) || ((not (isInternal n) && ltb 0 (n .count)) || not (all (eqb 0) (drop (n .count) (n .kids)))))
+bad n = ltb lastKind (n .kind) || ltb fields (n .count) || (not (isInternal n) && ltb 0 (n .count)) || not (all (eqb 0) (drop (n .count) (n .kids)))
 
 -- the children: the child fields below the count
 unfoldable pub children : Node → List ℕ

@@ -1,0 +1,22 @@
+use borrow.Author.Needs.{needs}
+use Rattle.record.specs.Node.{nodeAt, recordAt}
+use Rattle.record.proofs.node_at.Statement.{statement}
+use Rattle.record.proofs.node_at.Tie as tie
+
+returns : tie.Need-returns
+unfolding nodeAt recordAt
+returns c = cc
+
+pub node-at-spec : {M : Type 1} → statement M
+node-at-spec =
+    tie.close
+    (tie.spec
+    (λ c. search needs)
+    (λ c. search needs)
+    (λ c κs. search needs)
+    (λ c. search needs)
+    (λ c κs. search needs)
+    (λ c κs. search needs)
+    (λ c. search needs)
+    (λ c κs. search needs)
+    returns)
