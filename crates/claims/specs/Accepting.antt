@@ -17,19 +17,18 @@ use Rattle.record.specs.declared.Node.{Node}
 use Rattle.record.proofs.Nodes.{not-internal}
 use Rattle.forest.specs.Canonicalize.{alone, childRange, canonicalizeChecks, disorders, canonicalizeRefusals, canonical, canonicalize}
 use Rattle.forest.specs.Graph.{farKid, farChild, noNode, at}
-use Rattle.forest.specs.Lent.{Input, Room, Outcome, refuse, accept, naming, first, answered}
+use Rattle.forest.specs.Lent.{Input, Room, refuse, accept, naming, first, answered}
 use Rattle.forest.specs.Lists.{has}
 use Rattle.forest.specs.Order.{ids, externals, begun, order, unreleased, repeat}
 use Rattle.forest.specs.Validate.{badRecord}
 use Rattle.forest.specs.declared.Reply.{Reply}
-use Rattle.forest.specs.declared.Reply.the-variants.{Accepted}
 use Rattle.claims.specs.Checks.{first-none, naming-none}
 use Rattle.claims.specs.Children.{parent-in, no-child-out, Bare}
 use Rattle.claims.specs.Externals.{apart, externals-strict, repeat-none}
 use Rattle.claims.specs.Origins.{proper-bare, records-proper}
 use Rattle.claims.specs.PathLaws.{Ends, ends, ends-acyclic}
 use Rattle.claims.specs.Paths.{HasChild, Orderly}
-use Rattle.claims.specs.Refusals.{first-refuses, disorders-refuse}
+use Rattle.claims.specs.Refusals.{first-refuses, disorders-refuse, IsAccepted}
 use Rattle.claims.specs.Releases.{released-queue, queue-ends, in-externals, externals-in, externals-distinct, begun-in, order-all}
 use Rattle.claims.specs.Searches.{has-in, lowest-none, lastOf-none, none-lowest, none-lastOf, firstSome-none, none-firstSome, mem-at}
 use Rattle.claims.specs.Settled.{answered-past}
@@ -109,12 +108,6 @@ checks-good i m e =
 
 pub records-bare : (s : List ℕ) → badRecord s ≡ none → Bare (nodesOf s)
 records-bare s e = proper-bare (nodesOf s) (records-proper s e)
-
--- the call is accepted
-pub record IsAccepted (o : Outcome) : Type 0 where
-  pub nodes : ℕ
-  pub roots : ℕ
-  pub says : o .reply ≡ Accepted nodes roots
 
 -- With the checks before it met, Canonicalize is accepted exactly if external digests differ, children are in range and no cycle runs through children
 pub accepted-exactly-if : (i : Input) (m : Room) → first (canonicalizeChecks i m) ≡ none → IsAccepted (canonicalize i m) ↔ Orderly (nodesOf (i .nodes))

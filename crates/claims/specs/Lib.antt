@@ -23,3 +23,7 @@ pub mod Externals
 pub mod Accepting
 pub mod Passing
 pub mod Again
+pub mod Results
+pub mod Places
+pub mod Built
+pub mod Merges

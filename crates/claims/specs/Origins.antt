@@ -12,7 +12,8 @@ use Rattle.record.specs.Node.{size, nodeAt, nodesOf, nodeBytes, rowsOf, class, 
 use Rattle.record.specs.declared.Node.{Node}
 use Rattle.record.specs.declared.Row.{Row}
 use Rattle.record.proofs.Lengths.{Full}
-use Rattle.record.proofs.Nodes.{child-from, good-internal, full-read, full-renumber, length-records}
+use Rattle.record.proofs.Nodes.{child-from, good-internal, full-read, full-renumber, fits-read, length-records}
+use Rattle.record.proofs.RoundTrip.{Octets, Fits}
 use Rattle.forest.specs.Canonicalize.{canonical}
 use Rattle.forest.specs.Graph.{Forest, forests, joined, noNode, at}
 use Rattle.forest.specs.Lent.{Input}
@@ -69,13 +70,19 @@ module _ (P : Node → Type 0) (stays : (f : ℕ → ℕ) (n : Node) → P n →
 
 -- FULL RECORDS ------------------------------------------------------------------------------------
 
--- what is read are full nodes
-pub records-full : (s : List ℕ) → Each Full (nodesOf s)
+-- what holds of each record that is read
+records-each : (P : Node → Type 0) (s : List ℕ) → ((i : ℕ) → P (nodeAt s i)) → Each P (nodesOf s)
 unfolding nodesOf
-records-full s n m = from (Memᴰ·of-map (nodeAt s) (run 0 (length s / size)) m)
+records-each P s h n m = from (Memᴰ·of-map (nodeAt s) (run 0 (length s / size)) m)
   where
-    from : (i : ℕ) × List·Memᴰ i (run 0 (length s / size)) × (nodeAt s i ≡ n) → Full n
-    from (i, k, e) = rw (sym e) (full-read s i)
+    from : (i : ℕ) × List·Memᴰ i (run 0 (length s / size)) × (nodeAt s i ≡ n) → P n
+    from (i, k, e) = rw (sym e) (h i)
+
+pub records-full : (s : List ℕ) → Each Full (nodesOf s)
+records-full s = records-each Full s (full-read s)
+
+pub records-fit : (s : List ℕ) → Octets s → Each Fits (nodesOf s)
+records-fit s h = records-each Fits s (λ i. fits-read s i h)
 
 no-node-full : Full noNode
 unfolding noNode

@@ -40,7 +40,7 @@ one-outcome c i m o o′ e e′ = e ∙ sym e′
 pub data Ending (c : Call) (i : Input) (m : Room) : Type 0 where
   refused : (r : Reply) → Refuses r → outcome c i m ≡ refuse (lent c m) r → Ending c i m
   given : (r : Result) → length (flat nodeBytes (r .nodes)) ≡ size * length (r .nodes) → outcome c i m ≡ accept (lent c m) r → Ending c i m
-  valid : (n : ℕ) → lent c m ≡ noRoom → outcome c i m ≡ record { reply = Accepted n 0; room = noRoom } → Ending c i m
+  validated : (n : ℕ) → lent c m ≡ noRoom → outcome c i m ≡ record { reply = Accepted n 0; room = noRoom } → Ending c i m
 
 worked-none : (r : Reply) → worked r [] ≡ []
 unfolding worked
@@ -56,7 +56,7 @@ module _ (i : Input) (m : Room) where
   validate-ends = go (first (validateRefusals (i .nodes))) refl
     where
       go : (o : Option Reply) → first (validateRefusals (i .nodes)) ≡ o → Ending validating i m
-      go none e = valid (length (i .nodes) / size) refl (rw e)
+      go none e = validated (length (i .nodes) / size) refl (rw e)
       go (some r) e = refused r (first-refuses (validate-refuses (i .nodes)) r e) (rw (e, worked-none r))
 
   answered-ends : (c : Call) (os : List (Option Reply)) (r : Result) → lent c m ≡ m → outcome c i m ≡ answered m os r → AllRefuse os
@@ -108,7 +108,7 @@ refusal-changes-nothing c i m h = go (ending c i m)
     go : Ending c i m → SameOutputs ((outcome c i m) .room) (lent c m)
     go (refused r q e) = rw e (record { nodes = refl; roots = refl; ids = refl })
     go (given r l e) = absurd (h (length (r .nodes)) (length (r .roots)) (rw e))
-    go (valid n l e) = absurd (h n 0 (rw e))
+    go (validated n l e) = absurd (h n 0 (rw e))
 
 -- after acceptance of n nodes and k roots, output past the result is unchanged (the id list has nothing past it)
 pub record SamePast (n k : ℕ) (a b : Room) : Type 0 where
@@ -130,7 +130,7 @@ past-unchanged c i m n k h = go (ending c i m)
         let a : length (flat nodeBytes (r .nodes)) ≡ size * n = l ∙ cc in
         let b : length (r .roots) ≡ k = cc in
         rw e (record { nodes = drop-over ((lent c m) .nodes) _ _ a; roots = drop-over ((lent c m) .roots) _ _ b })
-    go (valid j l e) = rw (e, l) (record { nodes = refl; roots = refl })
+    go (validated j l e) = rw (e, l) (record { nodes = refl; roots = refl })
 
 -- the work room afterwards: unchanged after 13, 2 and 1, all zero after any other reply
 pub work-after : (c : Call) (i : Input) (m : Room) → (outcome c i m) .room .work ≡ worked ((outcome c i m) .reply) ((lent c m) .work)
@@ -140,7 +140,7 @@ work-after c i m = go (ending c i m)
     go : Ending c i m → (outcome c i m) .room .work ≡ worked ((outcome c i m) .reply) ((lent c m) .work)
     go (refused r q e) = rw e
     go (given r l e) = rw e
-    go (valid n l e) = rw (e, l) (sym (worked-none (Accepted n 0)))
+    go (validated n l e) = rw (e, l) (sym (worked-none (Accepted n 0)))
 
 pub work-kept : (c : Call) (i : Input) (m : Room) → leavesWork ((outcome c i m) .reply) ≡ true → (outcome c i m) .room .work ≡ (lent c m) .work
 unfolding worked

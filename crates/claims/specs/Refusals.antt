@@ -1,7 +1,7 @@
 -- No refusal is an acceptance: each member of each list of refusals refuses.
 -- Assumes nothing.
 use Prim.Native.Nat.{ℕ, suc}
-use mathlib.Core.Path.{_≡_}
+use mathlib.Core.Path.{_≡_, refl}
 use mathlib.Core.Bool.{Bool, true, false}
 use mathlib.Core.List.{List, [], _∷_, _++_}
 use mathlib.Core.Logic.{_≢_}
@@ -11,7 +11,7 @@ use Rattle.record.specs.declared.Node.{Node}
 use Rattle.record.proofs.Basics.{clash}
 use Rattle.forest.specs.Canonicalize.{alone, rootRange, childRange, canonicalizeChecks, disorders, canonicalizeRefusals}
 use Rattle.forest.specs.Graph.{Forest}
-use Rattle.forest.specs.Lent.{Input, Room, Result, when, naming, first}
+use Rattle.forest.specs.Lent.{Input, Room, Outcome, Result, refuse, when, naming, first, answered}
 use Rattle.forest.specs.Merge.{forestsOf, mergeChecks, stopped, short, mergeRefusals}
 use Rattle.forest.specs.Validate.{badRecord, forward, fault, faults, nodeFaults, validateRefusals}
 use Rattle.forest.specs.Walk.{Walked, going, cycle, deep}
@@ -142,3 +142,20 @@ merge-refuses limit i m w x =
     (refuse-cons (root-range (forestsOf i))
     (refuse-cons (child-range (forestsOf i)) refuse-nil))))))))))
     (refuse-cons (stopped-refuses w) (refuse-cons (short-refuses m x) refuse-nil))
+
+-- ACCEPTED ----------------------------------------------------------------------------------------
+
+-- the call is accepted
+pub record IsAccepted (o : Outcome) : Type 0 where
+  pub nodes : ℕ
+  pub roots : ℕ
+  pub says : o .reply ≡ Accepted nodes roots
+
+-- what is accepted was refused by nothing
+pub accepted-past : (m : Room) (os : List (Option Reply)) (r : Result) → AllRefuse os → IsAccepted (answered m os r) → first os ≡ none
+unfolding answered refuse
+accepted-past m os r h a = go (first os) refl
+  where
+    go : (o : Option Reply) → first os ≡ o → first os ≡ none
+    go none e = e
+    go (some x) e = absurd (first-refuses h x e (a .nodes) (a .roots) (let z = a .says in rw (e, answered) at z))

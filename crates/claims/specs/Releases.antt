@@ -13,11 +13,12 @@ use Rattle.record.specs.Lists.{run}
 use Rattle.record.specs.Node.{isExternal, isBlock, isInternal, children}
 use Rattle.record.specs.declared.Node.{Node}
 use Rattle.record.proofs.Basics.{both-true}
+use Rattle.record.proofs.Lengths.{length-run}
 use Rattle.record.proofs.Nodes.{classes, not-both}
 use Rattle.forest.specs.Graph.{at}
 use Rattle.forest.specs.Lists.{has, lowest}
 use Rattle.forest.specs.Order.{ids, externals, blocks, ready, released, begun, order}
-use Rattle.claims.specs.Distinct.{Distinct, empty, fresh, distinct-append, distinct-snoc, pigeonhole}
+use Rattle.claims.specs.Distinct.{Distinct, empty, fresh, distinct-append, distinct-snoc, pigeonhole, pigeonhole-in}
 use Rattle.claims.specs.PathLaws.{way-steps, Ends, ends}
 use Rattle.claims.specs.Paths.{HasChild, Steps, Path, root, onto}
 use Rattle.claims.specs.Searches.{has-in, not-in, all-true, all-false, lowest-none, lowest-ids}
@@ -199,3 +200,11 @@ module _ (g : List Node) where
       go : (b : Bool) → has x (order g) ≡ b → has x (order g) ≡ true
       go true e = e
       go false e = absurd (cases e (released-end g (length g) (begun g)))
+
+  -- an order that holds everything is as long as the forest
+  pub length-order : ((x : ℕ) → x < length g → List·Memᴰ x (order g)) → length (order g) ≡ length g
+  length-order all-in =
+      let a : length (order g) ≤ length g = pigeonhole (length g) order-distinct order-below in
+      let b : length (run 0 (length g)) ≤ length (order g) = pigeonhole-in (order g) (run-distinct 0 (length g)) (λ x m. all-in x (let (u, v) = run-in 0 (length g) x m in omega arith)) in
+      let c = length-run 0 (length g) in
+      omega arith
