@@ -28,7 +28,7 @@ use Rattle.claims.specs.Externals.{apart, externals-strict, repeat-none}
 use Rattle.claims.specs.Origins.{proper-bare, records-proper}
 use Rattle.claims.specs.PathLaws.{Ends, ends, ends-acyclic}
 use Rattle.claims.specs.Paths.{HasChild, Orderly}
-use Rattle.claims.specs.Refusals.{first-refuses, disorders-refuse, IsAccepted}
+use Rattle.claims.specs.Refusals.{first-refuses, disorders-refuse, canonicalize-refuses, IsAccepted, accepted-past}
 use Rattle.claims.specs.Releases.{released-queue, queue-ends, in-externals, externals-in, externals-distinct, begun-in, order-all}
 use Rattle.claims.specs.Searches.{has-in, lowest-none, lastOf-none, none-lowest, none-lastOf, firstSome-none, none-firstSome, mem-at}
 use Rattle.claims.specs.Settled.{answered-past}
@@ -94,6 +94,10 @@ module _ (g : List Node) where
 pub canonicalize-past : (i : Input) (m : Room) → first (canonicalizeChecks i m) ≡ none → canonicalize i m ≡ answered m (disorders (nodesOf (i .nodes))) (canonical (nodesOf (i .nodes)) (i .roots))
 unfolding canonicalize canonicalizeRefusals
 canonicalize-past i m e = answered-past m (canonicalizeChecks i m) _ _ e
+
+pub canonicalize-cleared : (i : Input) (m : Room) → IsAccepted (canonicalize i m) → first (canonicalizeRefusals i m) ≡ none
+unfolding canonicalize
+canonicalize-cleared i m a = accepted-past m _ (canonical (nodesOf (i .nodes)) (i .roots)) (canonicalize-refuses i m) a
 
 pub checks-good : (i : Input) (m : Room) → first (canonicalizeChecks i m) ≡ none → badRecord (i .nodes) ≡ none
 unfolding canonicalizeChecks

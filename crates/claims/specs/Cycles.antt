@@ -1,22 +1,26 @@
 -- Demand 3: what Cycle, TooDeep and any other answer of a merge say of the joined graph.
 -- Assumes nothing.
-use Prim.Native.Nat.{ℕ, _≤_}
+use Prim.Native.Nat.{ℕ, _*_, _≤_}
 use mathlib.Core.Path.{_≡_, refl}
 use mathlib.Core.Logic.{_≢_}
 use mathlib.Core.Option.{none}
 use native.Mathlib.Omega.{arith}
-use Rattle.record.proofs.Nodes.{good}
+use borrow.Author.Tests.{eqb-true, not-false}
+use lib.ListN.{length}
+use Rattle.record.specs.Node.{size, nodesOf}
+use Rattle.record.proofs.Nodes.{good, length-nodesOf}
 use Rattle.forest.specs.Canonicalize.{rootRange, childRange}
 use Rattle.forest.specs.Graph.{farRoot, farChild}
 use Rattle.forest.specs.Lent.{Input, Room, refuse, first}
 use Rattle.forest.specs.Merge.{nodeSum, forestsOf, graph, rootsOf, mergeChecks, merge}
+use Rattle.forest.specs.Order.{ids}
 use Rattle.forest.specs.Validate.{badRecord}
 use Rattle.forest.specs.Walk.{Walked, going, cycle, deep, walk}
 use Rattle.forest.specs.declared.Reply.the-variants.{Cycle, TooDeep}
-use Rattle.claims.specs.Checks.{first-none, naming-none}
+use Rattle.claims.specs.Checks.{first-none, naming-none, when-none}
 use Rattle.claims.specs.PathLaws.{cycle-cycle, deep-long, going-acyclic}
 use Rattle.claims.specs.Paths.{CycleReached, LongPath}
-use Rattle.claims.specs.Ranges.{Bounded, long-below, forests-bounded}
+use Rattle.claims.specs.Ranges.{joined-count, Bounded, long-below, forests-bounded}
 use Rattle.claims.specs.Settled.{settled, past-checks, settled-cycle, settled-deep}
 use Rattle.claims.specs.Walks.{walk-why}
 
@@ -24,30 +28,47 @@ use Rattle.claims.specs.Walks.{walk-why}
 abbrev pub Passes : ℕ → Input → Room → Type 0
 Passes limit i m = first (mergeChecks limit i m) ≡ none
 
--- what the checks found of records and ranges
-pub record Checked (i : Input) : Type 0 where
+-- what the checks found of sizes, records and ranges
+pub record Checked (i : Input) (m : Room) : Type 0 where
+  pub nodes-long : length (i .nodes) ≡ size * nodeSum (i .table)
+  pub ids-long : length (m .ids) ≡ nodeSum (i .table)
   pub good : badRecord (i .nodes) ≡ none
   pub near-roots : farRoot (forestsOf i) ≡ none
   pub near-children : farChild (forestsOf i) ≡ none
 
-pub checked : (limit : ℕ) (i : Input) (m : Room) → Passes limit i m → Checked i
+pub checked : (limit : ℕ) (i : Input) (m : Room) → Passes limit i m → Checked i m
 unfolding mergeChecks rootRange childRange
 checked limit i m e =
     let e1 = (first-none _ _ e) .1 in
     let e2 = (first-none _ _ e1) .1 in
-    let e3 = (first-none _ _ e2) .1 in
+    let (a3, e3) = first-none _ _ ((first-none _ _ e2) .1) in
     let e4 = (first-none _ _ e3) .1 in
-    let e5 = (first-none _ _ e4) .1 in
+    let (a5, e5) = first-none _ _ e4 in
     let e6 = (first-none _ _ e5) .1 in
-    let e7 = (first-none _ _ e6) .1 in
-    let e8 = (first-none _ _ e7) .1 in
-    let e9 = (first-none _ _ e8) .1 in
-    record { good = (first-none _ _ e7) .0; near-roots = naming-none _ _ ((first-none _ _ e8) .0); near-children = naming-none _ _ ((first-none _ _ e9) .0) }
+    let (a7, e7) = first-none _ _ e6 in
+    let (a8, e8) = first-none _ _ e7 in
+    let (a9, e9) = first-none _ _ e8 in
+    record {
+      nodes-long = eqb-true _ _ (not-false _ (when-none _ _ a3));
+      ids-long = eqb-true _ _ (not-false _ (when-none _ _ a5));
+      good = a7;
+      near-roots = naming-none _ _ a8;
+      near-children = naming-none _ _ a9;
+    }
+
+-- as many records are read as the table counts
+pub records-counted : (limit : ℕ) (i : Input) (m : Room) → Passes limit i m → length (nodesOf (i .nodes)) ≡ nodeSum (i .table)
+records-counted limit i m past = let a = (checked limit i m past) .nodes-long in let b = length-nodesOf (i .nodes) in omega arith
+
+-- the joined graph has them all
+pub graph-counted : (limit : ℕ) (i : Input) (m : Room) → Passes limit i m → length (graph i) ≡ nodeSum (i .table)
+unfolding graph forestsOf nodeSum
+graph-counted limit i m past = joined-count 0 _ _ _ (records-counted limit i m past)
 
 -- positions, children and roots stay below the node count
 pub bounded : (limit : ℕ) (i : Input) (m : Room) → Passes limit i m → Bounded (nodeSum (i .table)) (graph i) (rootsOf i)
 unfolding nodeSum graph rootsOf forestsOf
-bounded limit i m past = let c = checked limit i m past in forests-bounded _ _ _ (c .near-roots) (c .near-children)
+bounded limit i m past = let c = checked limit i m past in forests-bounded _ _ _ (records-counted limit i m past) (c .near-roots) (c .near-children)
 
 module _ (limit : ℕ) (i : Input) (m : Room) (past : Passes limit i m) where
   -- Cycle only if a cycle can be reached from some root; the node that is named lies on it

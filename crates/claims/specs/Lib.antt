@@ -1,5 +1,4 @@
 pub mod Calls
-pub mod Examples
 pub mod Searches
 pub mod Distinct
 pub mod Sorts
@@ -17,7 +16,6 @@ pub mod Cycles
 pub mod Limits
 pub mod Rooms
 pub mod Refusals
-pub mod Outcomes
 pub mod Releases
 pub mod Externals
 pub mod Accepting
@@ -27,3 +25,6 @@ pub mod Results
 pub mod Places
 pub mod Built
 pub mod Merges
+pub mod Endings
+pub mod Outcomes
+pub mod Demands

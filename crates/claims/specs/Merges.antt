@@ -8,25 +8,29 @@ use mathlib.Core.Logic.{_⊎_, inl, inr}
 use mathlib.Core.Option.{Option, some, none}
 use native.Mathlib.Omega.{arith}
 use lib.ListN.{length, getD, length-map}
+use Rattle.record.specs.Lists.{run}
 use Rattle.record.specs.Node.{children, renumber, sameNode}
 use Rattle.record.specs.declared.Node.{Node}
 use Rattle.record.proofs.Basics.{clash}
+use Rattle.record.proofs.Lengths.{length-run}
 use Rattle.record.proofs.Nodes.{children-renumber, good}
 use Rattle.forest.specs.Graph.{noNode, at}
-use Rattle.forest.specs.Lent.{Input, Room, Result, noId, first}
+use Rattle.forest.specs.Lent.{Input, Room, Result, noId, accept, first, answered}
 use Rattle.forest.specs.Lists.{has, firsts}
-use Rattle.forest.specs.Merge.{nodeSum, graph, rootsOf, carried, merged}
+use Rattle.forest.specs.Merge.{nodeSum, graph, rootsOf, mergeChecks, stopped, stateOf, mergeRefusals, carried, merged, merge}
 use Rattle.forest.specs.Order.{ids, order, placeIn, arranged}
 use Rattle.forest.specs.Validate.{nodeFaults}
-use Rattle.forest.specs.Walk.{State, start, Walked, going, idIn, ended, walk}
+use Rattle.forest.specs.Walk.{State, start, Walked, going, cycle, deep, idIn, ended, walk}
 use Rattle.claims.specs.Again.{valid}
 use Rattle.claims.specs.Built.{Where, earlier, equal, behind, where-is, built-kids, built-apart, built-in, built-passes, walk-few}
+use Rattle.claims.specs.Checks.{first-none, first-both}
 use Rattle.claims.specs.Children.{parent-below, Bare}
-use Rattle.claims.specs.Cycles.{Passes, checked, bounded}
+use Rattle.claims.specs.Cycles.{Passes, checked, graph-counted, bounded}
 use Rattle.claims.specs.Origins.{graph-each, merged-each, Proper, proper-renumber, proper-bare, records-proper}
 use Rattle.claims.specs.Passing.{place-lt}
 use Rattle.claims.specs.Paths.{HasChild}
 use Rattle.claims.specs.Places.{places-one, distinct-at, at-arranged, same-node, node-same}
+use Rattle.claims.specs.Refusals.{merge-refuses, IsAccepted, accepted-past}
 use Rattle.claims.specs.Releases.{order-distinct, order-below, length-order}
 use Rattle.claims.specs.Searches.{getD-mem}
 use Rattle.claims.specs.Sound.{Sound, Finished, in-idIn, walk-sound}
@@ -57,6 +61,11 @@ firsts-in seen (p ∷ ps) x m = go (has p seen) refl (firsts-in seen ps x) (firs
     go : (b : Bool) → has p seen ≡ b → (List·Memᴰ x (firsts seen ps) → List·Memᴰ x ps) → (List·Memᴰ x (firsts (p ∷ seen) ps) → List·Memᴰ x ps) → List·Memᴰ x (p ∷ ps)
     go true e ih jh = List·Memᴰ·tail (ih (rw (e, firsts) at m))
     go false e ih jh = kept jh (List·Memᴰ·cases-cons (rw (e, firsts) at m))
+
+-- the id list has an entry for each input node
+pub merged-ids : (limit : ℕ) (i : Input) (m : Room) → Passes limit i m → (t : State) → length ((merged (graph i) (rootsOf i) t) .ids) ≡ length (m .ids)
+unfolding merged ids
+merged-ids limit i m past t = length-map (run 0 (length (graph i))) _ ∙ (length-run 0 (length (graph i)) ∙ (graph-counted limit i m past ∙ sym ((checked limit i m past) .ids-long)))
 
 -- the walk of a merge past its checks has come to t
 module _ (limit : ℕ) (i : Input) (m : Room) (past : Passes limit i m) (t : State) (e : walk (graph i) limit (rootsOf i) ≡ going t) where
@@ -168,3 +177,51 @@ module _ (limit : ℕ) (i : Input) (m : Room) (past : Passes limit i m) (t : Sta
     where
       below : (p : ℕ) → p < length (order (t .merged)) → getD (order (t .merged)) p 0 < length (t .merged)
       below p h = order-below (t .merged) _ (getD-mem (order (t .merged)) p 0 h)
+
+-- THE ACCEPTED CALL -------------------------------------------------------------------------------
+
+-- a result with nothing wrong in it
+pub record Sane (i : Input) (r : Result) : Type 0 where
+  pub few : length (r .nodes) ≤ nodeSum (i .table)
+  pub below : (p c : ℕ) → HasChild (r .nodes) p c → c < p
+  pub differ : (p q : ℕ) → p < length (r .nodes) → q < length (r .nodes) → sameNode (at (r .nodes) p) (at (r .nodes) q) ≡ true → p ≡ q
+  pub children-in : (p c : ℕ) → HasChild (r .nodes) p c → c < length (r .nodes)
+  pub roots-in : (x : ℕ) → List·Memᴰ x (r .roots) → x < length (r .nodes)
+  pub ids-in : (x : ℕ) → List·Memᴰ x (r .ids) → (x ≡ noId) ⊎ (x < length (r .nodes))
+  pub passes : first (nodeFaults (r .nodes)) ≡ none
+
+module _ (limit : ℕ) (i : Input) (m : Room) (a : IsAccepted (merge limit i m)) where
+  nothing-refused : first (mergeRefusals limit i m (walk (graph i) limit (rootsOf i)) (merged (graph i) (rootsOf i) (stateOf (walk (graph i) limit (rootsOf i))))) ≡ none
+  unfolding merge
+  nothing-refused = accepted-past m _ (merged (graph i) (rootsOf i) (stateOf (walk (graph i) limit (rootsOf i)))) (merge-refuses limit i m (walk (graph i) limit (rootsOf i)) _) a
+
+  accepted-result : merge limit i m ≡ accept m (merged (graph i) (rootsOf i) (stateOf (walk (graph i) limit (rootsOf i))))
+  unfolding merge answered
+  accepted-result = rw (nothing-refused, answered)
+
+  pub accepted-passes : Passes limit i m
+  unfolding mergeRefusals
+  accepted-passes = (first-both (mergeChecks limit i m) _ nothing-refused) .0
+
+  not-stopped-at : stopped (walk (graph i) limit (rootsOf i)) ≡ none
+  unfolding mergeRefusals
+  not-stopped-at = (first-none _ _ ((first-both (mergeChecks limit i m) _ nothing-refused) .1)) .0
+
+  -- what an accepted merge wrote is such a result
+  pub merge-sane : (r : Result) × (merge limit i m ≡ accept m r) × Sane i r
+  unfolding stopped stateOf
+  merge-sane = go (walk (graph i) limit (rootsOf i)) refl not-stopped-at accepted-result
+    where
+      go : (w : Walked) → walk (graph i) limit (rootsOf i) ≡ w → stopped w ≡ none → merge limit i m ≡ accept m (merged (graph i) (rootsOf i) (stateOf w)) → (r : Result) × (merge limit i m ≡ accept m r) × Sane i r
+      go (going s) q h e =
+          (merged (graph i) (rootsOf i) s, e, record {
+            few = merged-few limit i m accepted-passes s q;
+            below = children-below limit i m accepted-passes s q;
+            differ = no-two-equal limit i m accepted-passes s q;
+            children-in = children-in-range limit i m accepted-passes s q;
+            roots-in = roots-in-range limit i m accepted-passes s q;
+            ids-in = ids-in-range limit i m accepted-passes s q;
+            passes = merged-passes limit i m accepted-passes s q;
+          })
+      go (cycle p) q h e = absurd (clash (cc))
+      go (deep p) q h e = absurd (clash (cc))

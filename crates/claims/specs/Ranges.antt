@@ -9,7 +9,7 @@ use mathlib.Core.Option.{some, none}
 use native.Mathlib.Omega.{arith}
 use lib.Dec.{leb, ltb}
 use borrow.Author.Tests.{ltb-true, leb-false, not-false}
-use lib.ListN.{length, drop, length-append, length-take, length-map}
+use lib.ListN.{length, drop, length-append, length-take, length-drop, length-map}
 use Rattle.record.specs.Lists.{flat}
 use Rattle.record.specs.Node.{isExternal, children}
 use Rattle.record.specs.declared.Node.{Node}
@@ -52,11 +52,12 @@ forests-below b [] ns roots n h f m = absurd (List·Memᴰ·not-nil m)
 forests-below b (r ∷ rs) ns roots n h f (List·Memᴰ·head e) = rw e (omega arith)
 forests-below b (r ∷ rs) ns roots n h f (List·Memᴰ·tail m) = forests-below (b + r .nodes) rs (drop (r .nodes) ns) (drop (r .roots) roots) n (omega arith) f m
 
-joined-length : (b : ℕ) (rs : List Row) (ns : List Node) (roots : List ℕ) → length (joined (forests b rs ns roots)) ≤ sum (map (λ r. r .nodes) rs)
+-- the joined graph has as many nodes as the rows say, where there are as many records
+pub joined-count : (b : ℕ) (rs : List Row) (ns : List Node) (roots : List ℕ) → length ns ≡ sum (map (λ r. r .nodes) rs) → length (joined (forests b rs ns roots)) ≡ sum (map (λ r. r .nodes) rs)
 unfolding forests sum joined flat
-joined-length b [] ns roots = omega arith
-joined-length b (r ∷ rs) ns roots =
-    let h : length (joined (forests (b + r .nodes) rs (drop (r .nodes) ns) (drop (r .roots) roots))) ≤ sum (map (λ x. x .nodes) rs) = joined-length (b + r .nodes) rs (drop (r .nodes) ns) (drop (r .roots) roots) in
+joined-count b [] ns roots h = refl
+joined-count b (r ∷ rs) ns roots h =
+    let k : length (joined (forests (b + r .nodes) rs (drop (r .nodes) ns) (drop (r .roots) roots))) ≡ sum (map (λ x. x .nodes) rs) = joined-count (b + r .nodes) rs (drop (r .nodes) ns) (drop (r .roots) roots) (omega (arith, length-drop (r .nodes) ns)) in
     simp (length-append, length-map, length-take) (omega arith)
 
 -- a graph whose children and replacements stay below n
@@ -90,8 +91,8 @@ long-below n g roots w d l =
     let k : d < length (l .some-of) = l .more in
     omega arith
 
-pub forests-bounded : (rs : List Row) (ns : List Node) (roots : List ℕ) → farRoot (forests 0 rs ns roots) ≡ none → farChild (forests 0 rs ns roots) ≡ none
+pub forests-bounded : (rs : List Row) (ns : List Node) (roots : List ℕ) → length ns ≡ sum (map (λ r. r .nodes) rs) → farRoot (forests 0 rs ns roots) ≡ none → farChild (forests 0 rs ns roots) ≡ none
     → Bounded (sum (map (λ r. r .nodes) rs)) (joined (forests 0 rs ns roots)) (joinedRoots (forests 0 rs ns roots))
-forests-bounded rs ns roots e f =
+forests-bounded rs ns roots l e f =
     let h : Below (sum (map (λ r. r .nodes) rs)) (forests 0 rs ns roots) = forests-below 0 rs ns roots _ (omega arith) in
-    record { kids = kids-below _ _ h f; starts = roots-below _ _ h e; count = joined-length 0 rs ns roots }
+    record { kids = kids-below _ _ h f; starts = roots-below _ _ h e; count = let q = joined-count 0 rs ns roots l in omega arith }

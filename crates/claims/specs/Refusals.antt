@@ -1,22 +1,25 @@
 -- No refusal is an acceptance: each member of each list of refusals refuses.
 -- Assumes nothing.
-use Prim.Native.Nat.{ℕ, suc}
+use Prim.Native.Nat.{ℕ, suc, _<_, _≤_}
 use mathlib.Core.Path.{_≡_, refl}
 use mathlib.Core.Bool.{Bool, true, false}
 use mathlib.Core.List.{List, [], _∷_, _++_}
 use mathlib.Core.Logic.{_≢_}
 use mathlib.Core.Option.{Option, some, none}
+use native.Mathlib.Omega.{arith}
 use Rattle.record.specs.Node.{nodesOf}
+use Rattle.record.specs.Number.{number}
 use Rattle.record.specs.declared.Node.{Node}
 use Rattle.record.proofs.Basics.{clash}
 use Rattle.forest.specs.Canonicalize.{alone, rootRange, childRange, canonicalizeChecks, disorders, canonicalizeRefusals}
 use Rattle.forest.specs.Graph.{Forest}
 use Rattle.forest.specs.Lent.{Input, Room, Outcome, Result, refuse, when, naming, first, answered}
 use Rattle.forest.specs.Merge.{forestsOf, mergeChecks, stopped, short, mergeRefusals}
+use Rattle.forest.specs.Reply.{told}
 use Rattle.forest.specs.Validate.{badRecord, forward, fault, faults, nodeFaults, validateRefusals}
 use Rattle.forest.specs.Walk.{Walked, going, cycle, deep}
 use Rattle.forest.specs.declared.Reply.{Reply}
-use Rattle.forest.specs.declared.Reply.the-variants.{Accepted, BadBuffers, TooMany, BadRecord, RootRange, DuplicateExternal, Cycle, ClassOrder, DigestOrder, ForwardReference, BadLimit}
+use Rattle.forest.specs.declared.Reply.the-variants.{Accepted, BadBuffers, TooMany, BadRecord, RootRange, DuplicateExternal, ChildRange, Cycle, TooDeep, NoRoom, ClassOrder, DigestOrder, ForwardReference, BadLimit}
 
 -- the reply refuses
 abbrev pub Refuses : Reply → Type 0
@@ -159,3 +162,26 @@ accepted-past m os r h a = go (first os) refl
     go : (o : Option Reply) → first os ≡ o → first os ≡ none
     go none e = e
     go (some x) e = absurd (first-refuses h x e (a .nodes) (a .roots) (let z = a .says in rw (e, answered) at z))
+
+-- NUMBERS -----------------------------------------------------------------------------------------
+
+-- a reply is an acceptance, which is 0, or has one of the other numbers
+pub data Numbered (r : Reply) : Type 0 where
+  zeroth : (n k : ℕ) → r ≡ Accepted n k → Numbered r
+  other : 0 < (told r) .number → (told r) .number ≤ 13 → Numbered r
+
+pub number-of : (r : Reply) → Numbered r
+number-of (Accepted a b) = zeroth a b refl
+number-of (BadBuffers a) = other (omega arith) (omega arith)
+number-of TooMany = other (omega arith) (omega arith)
+number-of (BadRecord a) = other (omega arith) (omega arith)
+number-of (RootRange a) = other (omega arith) (omega arith)
+number-of (DuplicateExternal a) = other (omega arith) (omega arith)
+number-of (ChildRange a b) = other (omega arith) (omega arith)
+number-of (Cycle a) = other (omega arith) (omega arith)
+number-of (TooDeep a) = other (omega arith) (omega arith)
+number-of (NoRoom a b) = other (omega arith) (omega arith)
+number-of (ClassOrder a) = other (omega arith) (omega arith)
+number-of (DigestOrder a) = other (omega arith) (omega arith)
+number-of (ForwardReference a b) = other (omega arith) (omega arith)
+number-of BadLimit = other (omega arith) (omega arith)

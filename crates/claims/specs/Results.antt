@@ -56,6 +56,8 @@ module _ (i : Input) (m : Room) (past : first (canonicalizeRefusals i m) ≡ non
     pub few : length (i .nodes) / size ≤ most
     pub whole : length (i .nodes) % size ≡ 0
     pub as-long : length (m .nodes) ≡ length (i .nodes)
+    pub roots-long : length (m .roots) ≡ length (i .roots)
+    pub ids-long : length (m .ids) ≡ length (i .nodes) / size
     pub good : badRecord (i .nodes) ≡ none
     pub differ : repeat (forest i) (externals (forest i)) ≡ none
     pub inside : (p c : ℕ) → HasChild (forest i) p c → c < length (forest i)
@@ -68,8 +70,8 @@ module _ (i : Input) (m : Room) (past : first (canonicalizeRefusals i m) ≡ non
       let (s0, s1) = first-none _ _ s in
       let (a1, s2) = first-none _ _ s1 in
       let (a2, s3) = first-none _ _ s2 in
-      let s4 = (first-none _ _ s3) .1 in
-      let s5 = (first-none _ _ s4) .1 in
+      let (a3, s4) = first-none _ _ s3 in
+      let (a4, s5) = first-none _ _ s4 in
       let s6 = (first-none _ _ s5) .1 in
       let (t0, t1) = first-none _ _ t in
       let (t2, t3) = first-none _ _ t1 in
@@ -77,6 +79,8 @@ module _ (i : Input) (m : Room) (past : first (canonicalizeRefusals i m) ≡ non
         few = ltb-false _ _ ((either-false (ltb most (length (i .nodes) / size)) _ (when-none _ _ s0)) .0);
         whole = eqb-true _ _ (not-false _ (when-none _ _ a1));
         as-long = eqb-true _ _ (not-false _ (when-none _ _ a2));
+        roots-long = eqb-true _ _ (not-false _ (when-none _ _ a3));
+        ids-long = eqb-true _ _ (not-false _ (when-none _ _ a4));
         good = (first-none _ _ s6) .0;
         differ = naming-none _ _ t0;
         inside = far-inside (forest i) (naming-none _ _ t2);

@@ -1,4 +1,5 @@
--- Document 01, 'Examples', K1 to K12: one table, one statement, proved by computing it.
+-- Document 01, 'Examples', K1 to K12: one table, one statement, proved by computing it. It stands beside the definitions, so that a
+-- definition that breaks an example is refused in its own crate.
 -- Assumes nothing.
 use Prim.Native.Nat.{ℕ, zero, suc, _+_, _*_, _/_, _%_}
 use mathlib.Core.Path.{_≡_, refl}
@@ -9,17 +10,16 @@ use Rattle.record.specs.Lists.{same, run, all, over, flat}
 use Rattle.record.specs.Number.{le, number, numbers, bytes}
 use Rattle.record.specs.Order.{deciding, decided, lex, compared, isLess, before}
 use Rattle.record.specs.Node.{size, recordAt, nodeAt, nodesOf, nodeBytes, rowAt, rowsOf, classOf, rank, class, isExternal, isBlock, isInternal, bad, children, renumber, sameNode}
 use Rattle.forest.specs.declared.Told.{Told}
 use Rattle.forest.specs.Lists.{has, firsts, sum, hereOr, thereOr, firstSome, keep, lowest, highest, later, lastOf, insert, sort}
 use Rattle.forest.specs.Reply.{row, told}
 use Rattle.forest.specs.Lent.{Input, Room, Outcome, workWords, noId, leavesWork, worked, refuse, accept, when, naming, first, answered}
 use Rattle.forest.specs.Graph.{forests, joined, joinedRoots, farRoot, farKid, farChild, noNode, at, replacement, replacedBy, listed, next}
 use Rattle.forest.specs.Walk.{start, idIn, orNone, idOf, marked, mark, ended, push, finish, onward, each, enter, visit, walk}
 use Rattle.forest.specs.Order.{ids, lower, externals, blocks, ready, released, begun, order, unreleased, repeat, placeIn, arranged}
 use Rattle.forest.specs.Validate.{badRecord}
 use Rattle.forest.specs.Canonicalize.{alone, rootRange, childRange, canonicalizeChecks, disorders, canonicalizeRefusals, canonical, canonicalize}
 use Rattle.forest.specs.Merge.{nodeSum, rootSum, forestsOf, graph, rootsOf, mergeChecks, stopped, stateOf, short, mergeRefusals, carried, merged, merge}
-use Rattle.claims.specs.Calls.{Call, validating, canonicalizing, merging, outcome}
 
 -- a node with as many child fields as a record has
 unfoldable pub nodeOf : ℕ → ℕ → List ℕ → Node
@@ -51,16 +51,11 @@ input fs = record {
   roots = flat (λ f. f .roots) fs;
 }
 
--- a room that holds something else in each place: Canonicalize's fits, Merge's has a part record and a root more; both have work words to spare
-unfoldable pub spare : Call → ℕ
-spare (merging limit) = 1
-spare canonicalizing = 0
-spare validating = 0
-
-unfoldable pub held : Call → Input → Room
-held c i = record {
-  nodes = map (λ x. x % 256) (run 60 (length (i .nodes) + 53 * spare c));
-  roots = run 1000 (length (i .roots) + spare c);
+-- a room with k more of each output, part of a record among it, and work words to spare; each place holds another number
+unfoldable pub held : ℕ → Input → Room
+held k i = record {
+  nodes = map (λ x. x % 256) (run 60 (length (i .nodes) + 53 * k));
+  roots = run 1000 (length (i .roots) + k);
   ids = run 2000 (length (i .nodes) / size);
   work = run 3000 (workWords * (length (i .nodes) / size) + 3);
 }
@@ -79,16 +74,19 @@ unfoldable pub due : Room → Says → Told × Room
 due m (gives ns rs is) = (row 0 (length ns) (length rs), record { nodes = over (m .nodes) 0 (flat nodeBytes ns); roots = over (m .roots) 0 rs; ids = is; work = replicate (length (m .work)) 0 })
 due m (refuses k a b) = (row k a b, record { nodes = m .nodes; roots = m .roots; ids = m .ids; work = replicate (length (m .work)) 0 })
 
+-- the room as it was lent, what the call answers, and what the document says
 pub record Example : Type 0 where
-  pub call : Call
-  pub forests : List Given
+  pub room : Room
+  pub outcome : Outcome
   pub says : Says
 
 unfoldable pub merges : ℕ → List Given → Says → Example
-merges limit fs s = record { call = merging limit; forests = fs; says = s }
+merges limit fs s = record { room = held 1 (input fs); outcome = merge limit (input fs) (held 1 (input fs)); says = s }
 
 unfoldable pub canonicalizes : List Node → List ℕ → Says → Example
-canonicalizes ns rs s = record { call = canonicalizing; forests = given ns rs ∷ []; says = s }
+canonicalizes ns rs s =
+    let i : Input = input (given ns rs ∷ []) in
+    record { room = held 0 i; outcome = canonicalize i (held 0 i); says = s }
 
 -- K1 to K12; K6 has two lines, K7 three
 unfoldable pub table : List Example
@@ -112,7 +110,7 @@ table =
 
 -- the call answers what the document says
 abbrev pub Holds : Example → Type 0
-Holds e = shown (outcome (e .call) (input (e .forests)) (held (e .call) (input (e .forests)))) ≡ due (held (e .call) (input (e .forests))) (e .says)
+Holds e = shown (e .outcome) ≡ due (e .room) (e .says)
 
 -- the statement holds of each element
 unfoldable pub Every : {A : Type 0} → (A → Type 0) → List A → Type 0
@@ -121,5 +119,5 @@ Every P (x ∷ xs) = P x × Every P xs
 
 -- the line below names every definition that must unfold to compute a call
 pub examples : Every Holds table
-unfolding Every table merges canonicalizes given E B I nodeOf input spare held shown due outcome same run all over flat le number numbers bytes deciding decided lex compared isLess before recordAt nodeAt nodesOf nodeBytes rowAt rowsOf classOf rank class isExternal isBlock isInternal bad children renumber sameNode has firsts sum hereOr thereOr firstSome keep lowest highest later lastOf insert sort leavesWork worked refuse accept when naming first answered forests joined joinedRoots farRoot farKid farChild noNode at replacement replacedBy listed next start idIn orNone idOf marked mark ended push finish onward each enter visit walk ids lower externals blocks ready released begun order unreleased repeat placeIn arranged badRecord alone rootRange childRange canonicalizeChecks disorders canonicalizeRefusals canonical canonicalize nodeSum rootSum forestsOf graph rootsOf mergeChecks stopped stateOf short mergeRefusals carried merged merge
+unfolding Every table merges canonicalizes given E B I nodeOf input held shown due same run all over flat le number numbers bytes deciding decided lex compared isLess before recordAt nodeAt nodesOf nodeBytes rowAt rowsOf classOf rank class isExternal isBlock isInternal bad children renumber sameNode has firsts sum hereOr thereOr firstSome keep lowest highest later lastOf insert sort leavesWork worked refuse accept when naming first answered forests joined joinedRoots farRoot farKid farChild noNode at replacement replacedBy listed next start idIn orNone idOf marked mark ended push finish onward each enter visit walk ids lower externals blocks ready released begun order unreleased repeat placeIn arranged badRecord alone rootRange childRange canonicalizeChecks disorders canonicalizeRefusals canonical canonicalize nodeSum rootSum forestsOf graph rootsOf mergeChecks stopped stateOf short mergeRefusals carried merged merge
 examples = (refl, (refl, (refl, (refl, (refl, (refl, (refl, (refl, (refl, (refl, (refl, (refl, (refl, (refl, (refl, tt)))))))))))))))
