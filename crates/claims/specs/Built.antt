@@ -16,7 +16,6 @@ use Rattle.record.proofs.Basics.{clash}
 use Rattle.record.proofs.Nodes.{not-internal, kind-zero}
 use Rattle.forest.specs.Graph.{noNode, at}
 use Rattle.forest.specs.Lent.{first}
-use Rattle.forest.specs.Merge.{merged}
 use Rattle.forest.specs.Order.{order, arranged}
 use Rattle.forest.specs.Validate.{nodeFaults}
 use Rattle.forest.specs.Walk.{State, start, going, walk}
@@ -109,7 +108,6 @@ module _ (l : List Node) (b : Built l) (bare : Bare l) where
       one-of p q u v x y e (earlier h) = absurd (clash (let z = built-apart b p q h v in let w = alike q p y x (sym e) in cc))
       one-of p q u v x y e (equal h) = h
       one-of p q u v x y e (behind h) = absurd (clash (let z = built-apart b q p h u in let w = alike p q x y e in cc))
-
 
   -- all of them are in the order
   pub built-in : (p : ℕ) → p < length l → List·Memᴰ p (order l)

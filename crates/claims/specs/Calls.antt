@@ -6,7 +6,6 @@ use mathlib.Core.Option.{Option}
 use Rattle.forest.specs.Canonicalize.{canonicalizeRefusals, canonicalize}
 use Rattle.forest.specs.Lent.{Input, Room, Outcome}
 use Rattle.forest.specs.Merge.{graph, rootsOf, stateOf, mergeRefusals, merged, merge}
-use Rattle.forest.specs.Order.{ids}
 use Rattle.forest.specs.Validate.{validateRefusals, validate}
 use Rattle.forest.specs.Walk.{Walked, walk}
 use Rattle.forest.specs.declared.Reply.{Reply}

@@ -8,12 +8,11 @@ use native.Mathlib.Omega.{arith}
 use borrow.Author.Tests.{eqb-true, not-false}
 use lib.ListN.{length}
 use Rattle.record.specs.Node.{size, nodesOf}
-use Rattle.record.proofs.Nodes.{good, length-nodesOf}
+use Rattle.record.proofs.Nodes.{length-nodesOf}
 use Rattle.forest.specs.Canonicalize.{rootRange, childRange}
 use Rattle.forest.specs.Graph.{farRoot, farChild}
 use Rattle.forest.specs.Lent.{Input, Room, refuse, first}
 use Rattle.forest.specs.Merge.{nodeSum, forestsOf, graph, rootsOf, mergeChecks, merge}
-use Rattle.forest.specs.Order.{ids}
 use Rattle.forest.specs.Validate.{badRecord}
 use Rattle.forest.specs.Walk.{Walked, going, cycle, deep, walk}
 use Rattle.forest.specs.declared.Reply.the-variants.{Cycle, TooDeep}

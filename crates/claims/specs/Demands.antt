@@ -13,7 +13,6 @@ use Rattle.record.proofs.RoundTrip.{Octets}
 use Rattle.forest.specs.Canonicalize.{canonicalizeChecks, canonicalize}
 use Rattle.forest.specs.Lent.{Input, Room, Outcome, Result, leavesWork, accept, first}
 use Rattle.forest.specs.Merge.{nodeSum, graph, rootsOf, merge}
-use Rattle.forest.specs.Order.{ids}
 use Rattle.forest.specs.Validate.{validate}
 use Rattle.forest.specs.declared.Reply.{Reply}
 use Rattle.forest.specs.declared.Reply.the-variants.{Accepted, Cycle, TooDeep, NoRoom}

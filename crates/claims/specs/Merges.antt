@@ -13,14 +13,14 @@ use Rattle.record.specs.Node.{children, renumber, sameNode}
 use Rattle.record.specs.declared.Node.{Node}
 use Rattle.record.proofs.Basics.{clash}
 use Rattle.record.proofs.Lengths.{length-run}
-use Rattle.record.proofs.Nodes.{children-renumber, good}
+use Rattle.record.proofs.Nodes.{children-renumber}
 use Rattle.forest.specs.Graph.{noNode, at}
 use Rattle.forest.specs.Lent.{Input, Room, Result, noId, accept, first, answered}
 use Rattle.forest.specs.Lists.{has, firsts}
 use Rattle.forest.specs.Merge.{nodeSum, graph, rootsOf, mergeChecks, stopped, stateOf, mergeRefusals, carried, merged, merge}
 use Rattle.forest.specs.Order.{ids, order, placeIn, arranged}
 use Rattle.forest.specs.Validate.{nodeFaults}
-use Rattle.forest.specs.Walk.{State, start, Walked, going, cycle, deep, idIn, ended, walk}
+use Rattle.forest.specs.Walk.{State, start, Walked, going, cycle, deep, idIn, walk}
 use Rattle.claims.specs.Again.{valid}
 use Rattle.claims.specs.Built.{Where, earlier, equal, behind, where-is, built-kids, built-apart, built-in, built-passes, walk-few}
 use Rattle.claims.specs.Checks.{first-none, first-both}
@@ -213,15 +213,18 @@ module _ (limit : ℕ) (i : Input) (m : Room) (a : IsAccepted (merge limit i m))
   merge-sane = go (walk (graph i) limit (rootsOf i)) refl not-stopped-at accepted-result
     where
       go : (w : Walked) → walk (graph i) limit (rootsOf i) ≡ w → stopped w ≡ none → merge limit i m ≡ accept m (merged (graph i) (rootsOf i) (stateOf w)) → (r : Result) × (merge limit i m ≡ accept m r) × Sane i r
-      go (going s) q h e =
-          (merged (graph i) (rootsOf i) s, e, record {
-            few = merged-few limit i m accepted-passes s q;
-            below = children-below limit i m accepted-passes s q;
-            differ = no-two-equal limit i m accepted-passes s q;
-            children-in = children-in-range limit i m accepted-passes s q;
-            roots-in = roots-in-range limit i m accepted-passes s q;
-            ids-in = ids-in-range limit i m accepted-passes s q;
-            passes = merged-passes limit i m accepted-passes s q;
-          })
+      go (going s) q h e = (
+        merged (graph i) (rootsOf i) s,
+        e,
+        record {
+          few = merged-few limit i m accepted-passes s q;
+          below = children-below limit i m accepted-passes s q;
+          differ = no-two-equal limit i m accepted-passes s q;
+          children-in = children-in-range limit i m accepted-passes s q;
+          roots-in = roots-in-range limit i m accepted-passes s q;
+          ids-in = ids-in-range limit i m accepted-passes s q;
+          passes = merged-passes limit i m accepted-passes s q;
+        },
+      )
       go (cycle p) q h e = absurd (clash (cc))
       go (deep p) q h e = absurd (clash (cc))

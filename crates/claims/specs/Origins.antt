@@ -18,7 +18,7 @@ use Rattle.forest.specs.Canonicalize.{canonical}
 use Rattle.forest.specs.Graph.{Forest, forests, joined, noNode, at}
 use Rattle.forest.specs.Lent.{Input}
 use Rattle.forest.specs.Merge.{forestsOf, graph, rootsOf, merged}
-use Rattle.forest.specs.Order.{ids, placeIn, arranged}
+use Rattle.forest.specs.Order.{placeIn, arranged}
 use Rattle.forest.specs.Validate.{badRecord}
 use Rattle.forest.specs.Walk.{State, going, walk}
 use Rattle.claims.specs.Checks.{naming-none}

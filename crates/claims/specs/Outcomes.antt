@@ -12,7 +12,6 @@ use Rattle.record.specs.Lists.{over, flat}
 use Rattle.record.specs.Node.{size, nodeBytes}
 use Rattle.record.proofs.Basics.{clash}
 use Rattle.forest.specs.Lent.{Input, Room, Outcome, leavesWork, worked, refuse, accept, first}
-use Rattle.forest.specs.Order.{ids}
 use Rattle.forest.specs.declared.Reply.{Reply}
 use Rattle.forest.specs.declared.Reply.the-variants.{Accepted}
 use Rattle.claims.specs.Calls.{Call, noRoom, lent, outcome, refusals}

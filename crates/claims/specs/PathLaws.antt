@@ -9,7 +9,7 @@ use Rattle.record.specs.Node.{children}
 use Rattle.record.specs.declared.Node.{Node}
 use Rattle.record.proofs.Basics.{clash}
 use Rattle.forest.specs.Graph.{at, replacedBy, listed, next}
-use Rattle.forest.specs.Walk.{State, start, Walked, going, cycle, deep, ended}
+use Rattle.forest.specs.Walk.{State, start, Walked, going, cycle, deep}
 use Rattle.claims.specs.Paths.{Step, child, replaced, Steps, one, more, Path, root, onto, CycleReached, LongPath}
 use Rattle.claims.specs.Walks.{Closed, nothing, after, Came, Why, fine, met, full}
 

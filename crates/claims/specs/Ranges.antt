@@ -20,7 +20,7 @@ use Rattle.forest.specs.Graph.{Forest, forests, joined, joinedRoots, farRoot, f
 use Rattle.forest.specs.Lists.{sum}
 use Rattle.claims.specs.Children.{parent-in}
 use Rattle.claims.specs.Distinct.{pigeonhole}
-use Rattle.claims.specs.Paths.{Step, child, replaced, more, Path, root, onto, LongPath}
+use Rattle.claims.specs.Paths.{Step, child, replaced, Path, root, onto, LongPath}
 use Rattle.claims.specs.Searches.{lowest-none, lastOf-none, highest-lt, firstSome-none, flat-from, flat-in}
 
 -- each forest ends at or below n

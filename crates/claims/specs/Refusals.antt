@@ -8,7 +8,6 @@ use mathlib.Core.Logic.{_≢_}
 use mathlib.Core.Option.{Option, some, none}
 use native.Mathlib.Omega.{arith}
 use Rattle.record.specs.Node.{nodesOf}
-use Rattle.record.specs.Number.{number}
 use Rattle.record.specs.declared.Node.{Node}
 use Rattle.record.proofs.Basics.{clash}
 use Rattle.forest.specs.Canonicalize.{alone, rootRange, childRange, canonicalizeChecks, disorders, canonicalizeRefusals}

@@ -28,6 +28,7 @@ use Rattle.claims.specs.Sorts.{run-in, in-run, run-distinct, keep-in, in
 pub data Queue (g : List Node) : List ℕ → List ℕ → Type 0 where
   idle : {o : List ℕ} → Queue g o []
   release : {o : List ℕ} {p : ℕ} {l : List ℕ} → ready g o p ≡ true → p < length g → Queue g (o ++ p ∷ []) l → Queue g o (p ∷ l)
+
 module _ (g : List Node) where
   pub released-queue : (n : ℕ) (o : List ℕ) → Queue g o (released g n o)
   unfolding released ids

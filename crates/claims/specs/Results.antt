@@ -30,7 +30,6 @@ use Rattle.claims.specs.Paths.{HasChild}
 use Rattle.claims.specs.Refusals.{canonicalize-refuses, IsAccepted, accepted-past}
 use Rattle.claims.specs.Releases.{order-below, length-order}
 use Rattle.claims.specs.Searches.{lowest-none, none-lowest, getD-mem}
-use Rattle.claims.specs.Walks.{full}
 
 -- records that fit, are not bad and pass are accepted by Validate
 pub validates : (ns : List Node) → Each Fits ns → ((n : Node) → List·Memᴰ n ns → bad n ≡ false) → length ns ≤ most → first (nodeFaults ns) ≡ none → validate (flat nodeBytes ns) ≡ Accepted (length ns) 0

@@ -12,7 +12,6 @@ use Rattle.record.specs.Node.{size, nodeBytes}
 use Rattle.record.proofs.Basics.{clash}
 use Rattle.forest.specs.Lent.{Input, Room, Outcome, Result, refuse, accept}
 use Rattle.forest.specs.Merge.{graph, rootsOf, merge}
-use Rattle.forest.specs.Order.{ids}
 use Rattle.forest.specs.Walk.{Walked, going, cycle, deep, walk}
 use Rattle.forest.specs.declared.Reply.{Reply}
 use Rattle.forest.specs.declared.Reply.the-variants.{Accepted, Cycle, TooDeep, NoRoom}

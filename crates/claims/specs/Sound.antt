@@ -17,7 +17,6 @@ use Rattle.record.proofs.Basics.{clash}
 use Rattle.record.proofs.Nodes.{child-from}
 use Rattle.forest.specs.Graph.{at, replacedBy, listed, next}
 use Rattle.forest.specs.Lists.{lowest}
-use Rattle.forest.specs.Merge.{merged}
 use Rattle.forest.specs.Order.{ids}
 use Rattle.forest.specs.Walk.{State, start, going, idIn, orNone, idOf, ended, push, finish, walk}
 use Rattle.claims.specs.Distinct.{Distinct, empty, fresh}

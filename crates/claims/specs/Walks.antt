@@ -15,7 +15,6 @@ use Rattle.record.specs.declared.Node.{Node}
 use Rattle.record.proofs.Basics.{clash}
 use Rattle.forest.specs.Graph.{at, replacedBy, listed, next}
 use Rattle.forest.specs.Lists.{has, lowest}
-use Rattle.forest.specs.Merge.{merged}
 use Rattle.forest.specs.Walk.{State, start, Walked, going, cycle, deep, idIn, Mark, finished, opened, unseen, marked, mark, ended, push, finish, onward, each, enter, visit, walk}
 use Rattle.claims.specs.Distinct.{Distinct, empty, fresh}
 use Rattle.claims.specs.Paths.{Step, child, replaced, Path, root, onto}
