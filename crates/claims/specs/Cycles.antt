@@ -5,13 +5,15 @@ use mathlib.Core.Path.{_≡_, refl}
 use mathlib.Core.Logic.{_≢_}
 use mathlib.Core.Option.{none}
 use native.Mathlib.Omega.{arith}
-use borrow.Author.Tests.{eqb-true, not-false}
+use lib.Dec.{ltb}
+use borrow.Author.Tests.{ltb-false, eqb-true, not-false}
 use lib.ListN.{length}
 use Rattle.record.specs.Node.{size, nodesOf}
+use Rattle.record.proofs.Basics.{either-false}
 use Rattle.record.proofs.Nodes.{length-nodesOf}
 use Rattle.forest.specs.Canonicalize.{rootRange, childRange}
 use Rattle.forest.specs.Graph.{farRoot, farChild}
-use Rattle.forest.specs.Lent.{Input, Room, refuse, first}
+use Rattle.forest.specs.Lent.{Input, Room, most, refuse, first}
 use Rattle.forest.specs.Merge.{nodeSum, forestsOf, graph, rootsOf, mergeChecks, merge}
 use Rattle.forest.specs.Validate.{badRecord}
 use Rattle.forest.specs.Walk.{Walked, going, cycle, deep, walk}
@@ -29,6 +31,7 @@ Passes limit i m = first (mergeChecks limit i m) ≡ none
 
 -- what the checks found of sizes, records and ranges
 pub record Checked (i : Input) (m : Room) : Type 0 where
+  pub few : nodeSum (i .table) ≤ most
   pub nodes-long : length (i .nodes) ≡ size * nodeSum (i .table)
   pub ids-long : length (m .ids) ≡ nodeSum (i .table)
   pub good : badRecord (i .nodes) ≡ none
@@ -39,7 +42,7 @@ pub checked : (limit : ℕ) (i : Input) (m : Room) → Passes limit i m → Chec
 unfolding mergeChecks rootRange childRange
 checked limit i m e =
     let e1 = (first-none _ _ e) .1 in
-    let e2 = (first-none _ _ e1) .1 in
+    let (a1, e2) = first-none _ _ e1 in
     let (a3, e3) = first-none _ _ ((first-none _ _ e2) .1) in
     let e4 = (first-none _ _ e3) .1 in
     let (a5, e5) = first-none _ _ e4 in
@@ -48,6 +51,7 @@ checked limit i m e =
     let (a8, e8) = first-none _ _ e7 in
     let (a9, e9) = first-none _ _ e8 in
     record {
+      few = ltb-false _ _ ((either-false (ltb most (nodeSum (i .table))) _ (when-none _ _ a1)) .0);
       nodes-long = eqb-true _ _ (not-false _ (when-none _ _ a3));
       ids-long = eqb-true _ _ (not-false _ (when-none _ _ a5));
       good = a7;

@@ -1,14 +1,14 @@
 -- The three demands in their order, then what Canonicalize and Merge promise. Each statement cites its theorem.
 -- The words: `outcome`, `lent` and `refusals` of a call are in Calls, steps, paths and cycles in Paths, all else in the crate `forest`.
 -- Assumes nothing.
-use Prim.Native.Nat.{ℕ, _≤_}
+use Prim.Native.Nat.{ℕ, _*_, _≤_}
 use mathlib.Core.Path.{_≡_}
 use mathlib.Core.Bool.{true, false}
 use mathlib.Core.Logic.{_≢_, _↔_}
 use mathlib.Core.Option.{some, none}
-use lib.ListN.{length, replicate}
+use lib.ListN.{length, take, replicate}
 use Rattle.record.specs.Lists.{run}
-use Rattle.record.specs.Node.{nodesOf}
+use Rattle.record.specs.Node.{size, nodesOf}
 use Rattle.record.proofs.RoundTrip.{Octets}
 use Rattle.forest.specs.Canonicalize.{canonicalizeChecks, canonicalize}
 use Rattle.forest.specs.Lent.{Input, Room, Outcome, Result, leavesWork, accept, first}
@@ -20,8 +20,8 @@ use Rattle.forest.proofs.Examples.{table, Holds, Every, examples}
 use Rattle.claims.specs.Accepting.{canonicalize-cleared, accepted-exactly-if}
 use Rattle.claims.specs.Calls.{Call, lent, outcome, refusals}
 use Rattle.claims.specs.Cycles.{Passes, cycle-only-if, deep-only-if, otherwise-none, never-deep}
+use Rattle.claims.specs.Delivers.{Sane, merge-sane, merge-valid}
 use Rattle.claims.specs.Limits.{larger-limit}
-use Rattle.claims.specs.Merges.{Sane, merge-sane}
 use Rattle.claims.specs.Outcomes.{Satisfies, one-outcome, first-decides, none-accepts, SameOutputs, refusal-changes-nothing, SamePast, past-unchanged, SameLengths, lengths-stay, work-kept, work-zero}
 use Rattle.claims.specs.Paths.{CycleReached, LongPath, Orderly}
 use Rattle.claims.specs.Refusals.{Refuses, IsAccepted, Numbered, number-of}
@@ -110,10 +110,14 @@ module _ (limit : ℕ) (i : Input) (m : Room) (past : Passes limit i m) where
 
 -- MERGE -------------------------------------------------------------------------------------------
 
--- An accepted merge writes a result whose nodes never outnumber the input's, whose children are below their parents, of which no two
+-- An accepted merge writes a result whose nodes and roots never outnumber the input's, whose children are below their parents, of which no two
 -- nodes are equal, and in which every root, child and id is in range.
 pub merge-writes : (limit : ℕ) (i : Input) (m : Room) → IsAccepted (merge limit i m) → (r : Result) × (merge limit i m ≡ accept m r) × Sane i r
 merge-writes = merge-sane
+
+-- Its records pass Validate.
+pub merge-passes : (limit : ℕ) (i : Input) (m : Room) → Octets (i .nodes) → (n k : ℕ) → (merge limit i m) .reply ≡ Accepted n k → validate (take (size * n) ((merge limit i m) .room .nodes)) ≡ Accepted n 0
+merge-passes limit i m octets n k e = merge-valid limit i m (record { nodes = n; roots = k; says = e }) octets n k e
 
 -- CANONICALIZE ------------------------------------------------------------------------------------
 

@@ -25,6 +25,7 @@ pub mod Results
 pub mod Places
 pub mod Built
 pub mod Merges
+pub mod Delivers
 pub mod Endings
 pub mod Outcomes
 pub mod Demands

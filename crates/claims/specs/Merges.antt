@@ -1,6 +1,7 @@
--- What Merge delivers: never more nodes than it was given, children below their parents, no two nodes equal, everything in range.
+-- The result of a merge whose walk has finished: never more nodes than it was given, children below their parents, no two nodes equal,
+-- everything in range.
 -- Assumes nothing.
-use Prim.Native.Nat.{ℕ, _<_, _≤_}
+use Prim.Native.Nat.{ℕ, suc, _<_, _≤_}
 use mathlib.Core.Path.{_≡_, refl, sym, _∙_}
 use mathlib.Core.Bool.{Bool, true, false}
 use mathlib.Core.List.{List, [], _∷_, map, List·Memᴰ, List·Memᴰ·head, List·Memᴰ·tail, List·Memᴰ·not-nil, List·Memᴰ·cases-cons, Memᴰ·of-map, append-nil}
@@ -8,30 +9,32 @@ use mathlib.Core.Logic.{_⊎_, inl, inr}
 use mathlib.Core.Option.{Option, some, none}
 use native.Mathlib.Omega.{arith}
 use lib.ListN.{length, getD, length-map}
-use Rattle.record.specs.Lists.{run}
-use Rattle.record.specs.Node.{children, renumber, sameNode}
+use Rattle.record.specs.Lists.{run, flat}
+use Rattle.record.specs.Node.{nodesOf, nodeBytes, rowsOf, children, renumber, sameNode}
 use Rattle.record.specs.declared.Node.{Node}
 use Rattle.record.proofs.Basics.{clash}
 use Rattle.record.proofs.Lengths.{length-run}
-use Rattle.record.proofs.Nodes.{children-renumber}
+use Rattle.record.proofs.Nodes.{children-renumber, Written, written-renumber}
+use Rattle.record.proofs.RoundTrip.{Octets}
 use Rattle.forest.specs.Graph.{noNode, at}
-use Rattle.forest.specs.Lent.{Input, Room, Result, noId, accept, first, answered}
+use Rattle.forest.specs.Lent.{Input, Room, Result, noId, first}
 use Rattle.forest.specs.Lists.{has, firsts}
-use Rattle.forest.specs.Merge.{nodeSum, graph, rootsOf, mergeChecks, stopped, stateOf, mergeRefusals, carried, merged, merge}
+use Rattle.forest.specs.Merge.{nodeSum, forestsOf, graph, rootsOf, carried, merged}
 use Rattle.forest.specs.Order.{ids, order, placeIn, arranged}
-use Rattle.forest.specs.Validate.{nodeFaults}
-use Rattle.forest.specs.Walk.{State, start, Walked, going, cycle, deep, idIn, walk}
+use Rattle.forest.specs.Validate.{nodeFaults, validate}
+use Rattle.forest.specs.Walk.{State, start, Walked, going, idIn, walk}
+use Rattle.forest.specs.declared.Reply.the-variants.{Accepted}
 use Rattle.claims.specs.Again.{valid}
 use Rattle.claims.specs.Built.{Where, earlier, equal, behind, where-is, built-kids, built-apart, built-in, built-passes, walk-few}
-use Rattle.claims.specs.Checks.{first-none, first-both}
 use Rattle.claims.specs.Children.{parent-below, Bare}
 use Rattle.claims.specs.Cycles.{Passes, checked, graph-counted, bounded}
-use Rattle.claims.specs.Origins.{graph-each, merged-each, Proper, proper-renumber, proper-bare, records-proper}
+use Rattle.claims.specs.Origins.{Each, graph-each, merged-each, arranged-each, Proper, proper-renumber, proper-bare, records-proper, records-written, no-node-written}
 use Rattle.claims.specs.Passing.{place-lt}
 use Rattle.claims.specs.Paths.{HasChild}
 use Rattle.claims.specs.Places.{places-one, distinct-at, at-arranged, same-node, node-same}
-use Rattle.claims.specs.Refusals.{merge-refuses, IsAccepted, accepted-past}
+use Rattle.claims.specs.Ranges.{joined-roots}
 use Rattle.claims.specs.Releases.{order-distinct, order-below, length-order}
+use Rattle.claims.specs.Results.{validates}
 use Rattle.claims.specs.Searches.{getD-mem}
 use Rattle.claims.specs.Sound.{Sound, Finished, in-idIn, walk-sound}
 use Rattle.claims.specs.Walks.{Came, Why, fine, met, full, walk-why}
@@ -61,6 +64,24 @@ firsts-in seen (p ∷ ps) x m = go (has p seen) refl (firsts-in seen ps x) (firs
     go : (b : Bool) → has p seen ≡ b → (List·Memᴰ x (firsts seen ps) → List·Memᴰ x ps) → (List·Memᴰ x (firsts (p ∷ seen) ps) → List·Memᴰ x ps) → List·Memᴰ x (p ∷ ps)
     go true e ih jh = List·Memᴰ·tail (ih (rw (e, firsts) at m))
     go false e ih jh = kept jh (List·Memᴰ·cases-cons (rw (e, firsts) at m))
+
+firsts-few : (seen l : List ℕ) → length (firsts seen l) ≤ length l
+unfolding firsts
+firsts-few seen [] = omega arith
+firsts-few seen (p ∷ ps) = go (has p seen) refl (firsts-few seen ps) (firsts-few (p ∷ seen) ps)
+  where
+    go : (b : Bool) → has p seen ≡ b → length (firsts seen ps) ≤ length ps → length (firsts (p ∷ seen) ps) ≤ length ps → length (firsts seen (p ∷ ps)) ≤ suc (length ps)
+    go true e a b = rw (e, firsts) (omega arith)
+    go false e a b = rw (e, firsts) (omega arith)
+
+-- merged roots never outnumber the input's
+roots-few : (i : Input) (t : State) → length ((merged (graph i) (rootsOf i) t) .roots) ≤ length (i .roots)
+unfolding merged rootsOf forestsOf
+roots-few i t =
+    let a = firsts-few [] (map (carried t (order (t .merged))) (rootsOf i)) in
+    let b = length-map (rootsOf i) (carried t (order (t .merged))) in
+    let c = joined-roots 0 (rowsOf (i .table)) (nodesOf (i .nodes)) (i .roots) in
+    omega arith
 
 -- the id list has an entry for each input node
 pub merged-ids : (limit : ℕ) (i : Input) (m : Room) → Passes limit i m → (t : State) → length ((merged (graph i) (rootsOf i) t) .ids) ≡ length (m .ids)
@@ -112,6 +133,19 @@ module _ (limit : ℕ) (i : Input) (m : Room) (past : Passes limit i m) (t : Sta
       let a = length-order (t .merged) in-order in
       let b = all-placed in
       omega arith
+
+  -- the result's nodes are those of records that are not bad
+  merged-written : Octets (i .nodes) → Each Written (delivers .nodes)
+  unfolding merged
+  merged-written octets =
+      arranged-each Written written-renumber no-node-written (t .merged)
+      (merged-each Written written-renumber no-node-written (graph i)
+      (graph-each Written written-renumber i (records-written (i .nodes) octets ((checked limit i m past) .good))) limit (rootsOf i) t e)
+      (order (t .merged))
+
+  -- so their records pass Validate
+  pub merged-valid : Octets (i .nodes) → validate (flat nodeBytes (delivers .nodes)) ≡ Accepted (length (delivers .nodes)) 0
+  merged-valid octets = validates (delivers .nodes) (merged-written octets) (let a = merged-few in let b = (checked limit i m past) .few in omega arith) merged-passes
 
   -- an id is in range, or the mark for none
   carried-in-range : (p : ℕ) → (carried t (order (t .merged)) p ≡ noId) ⊎ (carried t (order (t .merged)) p < length (delivers .nodes))
@@ -177,54 +211,3 @@ module _ (limit : ℕ) (i : Input) (m : Room) (past : Passes limit i m) (t : Sta
     where
       below : (p : ℕ) → p < length (order (t .merged)) → getD (order (t .merged)) p 0 < length (t .merged)
       below p h = order-below (t .merged) _ (getD-mem (order (t .merged)) p 0 h)
-
--- THE ACCEPTED CALL -------------------------------------------------------------------------------
-
--- a result with nothing wrong in it
-pub record Sane (i : Input) (r : Result) : Type 0 where
-  pub few : length (r .nodes) ≤ nodeSum (i .table)
-  pub below : (p c : ℕ) → HasChild (r .nodes) p c → c < p
-  pub differ : (p q : ℕ) → p < length (r .nodes) → q < length (r .nodes) → sameNode (at (r .nodes) p) (at (r .nodes) q) ≡ true → p ≡ q
-  pub children-in : (p c : ℕ) → HasChild (r .nodes) p c → c < length (r .nodes)
-  pub roots-in : (x : ℕ) → List·Memᴰ x (r .roots) → x < length (r .nodes)
-  pub ids-in : (x : ℕ) → List·Memᴰ x (r .ids) → (x ≡ noId) ⊎ (x < length (r .nodes))
-  pub passes : first (nodeFaults (r .nodes)) ≡ none
-
-module _ (limit : ℕ) (i : Input) (m : Room) (a : IsAccepted (merge limit i m)) where
-  nothing-refused : first (mergeRefusals limit i m (walk (graph i) limit (rootsOf i)) (merged (graph i) (rootsOf i) (stateOf (walk (graph i) limit (rootsOf i))))) ≡ none
-  unfolding merge
-  nothing-refused = accepted-past m _ (merged (graph i) (rootsOf i) (stateOf (walk (graph i) limit (rootsOf i)))) (merge-refuses limit i m (walk (graph i) limit (rootsOf i)) _) a
-
-  accepted-result : merge limit i m ≡ accept m (merged (graph i) (rootsOf i) (stateOf (walk (graph i) limit (rootsOf i))))
-  unfolding merge answered
-  accepted-result = rw (nothing-refused, answered)
-
-  pub accepted-passes : Passes limit i m
-  unfolding mergeRefusals
-  accepted-passes = (first-both (mergeChecks limit i m) _ nothing-refused) .0
-
-  not-stopped-at : stopped (walk (graph i) limit (rootsOf i)) ≡ none
-  unfolding mergeRefusals
-  not-stopped-at = (first-none _ _ ((first-both (mergeChecks limit i m) _ nothing-refused) .1)) .0
-
-  -- what an accepted merge wrote is such a result
-  pub merge-sane : (r : Result) × (merge limit i m ≡ accept m r) × Sane i r
-  unfolding stopped stateOf
-  merge-sane = go (walk (graph i) limit (rootsOf i)) refl not-stopped-at accepted-result
-    where
-      go : (w : Walked) → walk (graph i) limit (rootsOf i) ≡ w → stopped w ≡ none → merge limit i m ≡ accept m (merged (graph i) (rootsOf i) (stateOf w)) → (r : Result) × (merge limit i m ≡ accept m r) × Sane i r
-      go (going s) q h e = (
-        merged (graph i) (rootsOf i) s,
-        e,
-        record {
-          few = merged-few limit i m accepted-passes s q;
-          below = children-below limit i m accepted-passes s q;
-          differ = no-two-equal limit i m accepted-passes s q;
-          children-in = children-in-range limit i m accepted-passes s q;
-          roots-in = roots-in-range limit i m accepted-passes s q;
-          ids-in = ids-in-range limit i m accepted-passes s q;
-          passes = merged-passes limit i m accepted-passes s q;
-        },
-      )
-      go (cycle p) q h e = absurd (clash (cc))
-      go (deep p) q h e = absurd (clash (cc))

@@ -1,19 +1,20 @@
 -- Every node of the joined graph, of the merged nodes and of the result comes from an input record: what renumbering keeps, they have.
 -- Assumes nothing.
-use Prim.Native.Nat.{ℕ, _+_, _*_, _/_}
+use Prim.Native.Nat.{ℕ, zero, suc, _+_, _*_, _^_, _/_, _<_}
 use mathlib.Core.Path.{_≡_, refl, sym}
-use mathlib.Core.Bool.{true}
+use mathlib.Core.Bool.{true, false}
 use mathlib.Core.List.{List, [], _∷_, map, List·Memᴰ, List·Memᴰ·head, List·Memᴰ·tail, List·Memᴰ·not-nil, Memᴰ·of-map}
 use mathlib.Core.Logic.{_⊎_, inl, inr}
 use mathlib.Core.Option.{none}
-use lib.ListN.{length, drop}
-use Rattle.record.specs.Lists.{run, flat}
-use Rattle.record.specs.Node.{size, nodeAt, nodesOf, nodeBytes, rowsOf, class, isInternal, bad, children, renumber}
+use native.Mathlib.Omega.{arith}
+use lib.ListN.{length, drop, replicate}
+use Rattle.record.specs.Lists.{run, all, flat}
+use Rattle.record.specs.Node.{words, size, nodeAt, nodesOf, nodeBytes, rowsOf, classOf, rank, class, isInternal, bad, children, renumber}
 use Rattle.record.specs.declared.Node.{Node}
 use Rattle.record.specs.declared.Row.{Row}
 use Rattle.record.proofs.Lengths.{Full}
-use Rattle.record.proofs.Nodes.{child-from, good-internal, full-read, full-renumber, fits-read, length-records}
-use Rattle.record.proofs.RoundTrip.{Octets, Fits}
+use Rattle.record.proofs.Nodes.{child-from, good-internal, full-read, full-renumber, Written, written-read, length-records}
+use Rattle.record.proofs.RoundTrip.{Octets}
 use Rattle.forest.specs.Canonicalize.{canonical}
 use Rattle.forest.specs.Graph.{Forest, forests, joined, noNode, at}
 use Rattle.forest.specs.Lent.{Input}
@@ -81,9 +82,6 @@ records-each P s h n m = from (Memᴰ·of-map (nodeAt s) (run 0 (length s / size
 pub records-full : (s : List ℕ) → Each Full (nodesOf s)
 records-full s = records-each Full s (full-read s)
 
-pub records-fit : (s : List ℕ) → Octets s → Each Fits (nodesOf s)
-records-fit s h = records-each Fits s (λ i. fits-read s i h)
-
 no-node-full : Full noNode
 unfolding noNode
 no-node-full = record { kids-long = refl; digest-long = refl }
@@ -120,3 +118,18 @@ proper-bare g h p c k = h (at g p) (parent-in g p c k) c k
 pub records-proper : (s : List ℕ) → badRecord s ≡ none → Each Proper (nodesOf s)
 unfolding Proper badRecord
 records-proper s e n m c k = good-internal n (lowest-none bad (nodesOf s) (naming-none _ _ e) n m) c k
+
+-- WHAT IS WRITTEN ---------------------------------------------------------------------------------
+
+pub records-written : (s : List ℕ) → Octets s → badRecord s ≡ none → Each Written (nodesOf s)
+unfolding badRecord
+records-written s h e n m = (records-each (λ x. bad x ≡ false → Written x) s (λ i. written-read s i h) n m) (lowest-none bad (nodesOf s) (naming-none _ _ e) n m)
+
+pub no-node-written : Written noNode
+unfolding noNode bad isInternal class classOf rank all
+no-node-written = record { full = no-node-full; passes = refl; digest-fits = λ x m. zeros words x m }
+  where
+    zeros : (k x : ℕ) → List·Memᴰ x (replicate k 0) → x < 256 ^ 8
+    zeros zero x m = absurd (List·Memᴰ·not-nil m)
+    zeros (suc k) x (List·Memᴰ·head e) = rw e (omega arith)
+    zeros (suc k) x (List·Memᴰ·tail m) = zeros k x m

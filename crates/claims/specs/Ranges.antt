@@ -60,6 +60,14 @@ joined-count b (r ∷ rs) ns roots h =
     let k : length (joined (forests (b + r .nodes) rs (drop (r .nodes) ns) (drop (r .roots) roots))) ≡ sum (map (λ x. x .nodes) rs) = joined-count (b + r .nodes) rs (drop (r .nodes) ns) (drop (r .roots) roots) (omega (arith, length-drop (r .nodes) ns)) in
     simp (length-append, length-map, length-take) (omega arith)
 
+-- and no more roots than there are
+pub joined-roots : (b : ℕ) (rs : List Row) (ns : List Node) (roots : List ℕ) → length (joinedRoots (forests b rs ns roots)) ≤ length roots
+unfolding forests joinedRoots flat
+joined-roots b [] ns roots = omega arith
+joined-roots b (r ∷ rs) ns roots =
+    let k : length (joinedRoots (forests (b + r .nodes) rs (drop (r .nodes) ns) (drop (r .roots) roots))) ≤ length (drop (r .roots) roots) = joined-roots (b + r .nodes) rs (drop (r .nodes) ns) (drop (r .roots) roots) in
+    simp (length-append, length-map, length-take) (omega (arith, length-drop (r .roots) roots))
+
 -- a graph whose children and replacements stay below n
 pub record Bounded (n : ℕ) (g : List Node) (roots : List ℕ) : Type 0 where
   pub kids : (m : Node) → List·Memᴰ m g → (c : ℕ) → List·Memᴰ c (children m) → c < n

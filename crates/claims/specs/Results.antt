@@ -2,43 +2,56 @@
 -- Assumes nothing.
 use Prim.Native.Nat.{ℕ, _+_, _*_, _^_, _/_, _%_, _<_, _≤_}
 use mathlib.Core.Path.{_≡_, sym, _∙_, ap}
-use mathlib.Core.Bool.{false}
-use mathlib.Core.List.{List, [], List·Memᴰ, Memᴰ·of-map, append-nil}
+use mathlib.Core.List.{List, List·Memᴰ, append-nil}
 use mathlib.Core.Option.{none}
 use native.Mathlib.Omega.{arith}
 use lib.Dec.{ltb}
 use borrow.Author.Tests.{ltb-false, eqb-true, not-false, le-ltb}
 use lib.ListN.{length, length-map, drop-of-length-le}
 use Rattle.record.specs.Lists.{run, over, flat}
-use Rattle.record.specs.Node.{size, nodesOf, nodeBytes, bad, renumber}
+use Rattle.record.specs.Node.{size, nodesOf, nodeBytes, bad}
 use Rattle.record.specs.declared.Node.{Node}
 use Rattle.record.proofs.Basics.{either-false}
-use Rattle.record.proofs.Nodes.{good, bad-renumber, fits-renumber, length-nodesOf, length-records, nodes-back}
+use Rattle.record.proofs.Nodes.{Written, written-renumber, written-fits, length-nodesOf, length-records, nodes-back}
 use Rattle.record.proofs.RoundTrip.{Octets, Fits}
 use Rattle.forest.specs.Canonicalize.{childRange, canonicalizeChecks, disorders, canonicalizeRefusals, canonical, canonicalize}
 use Rattle.forest.specs.Graph.{noNode, at}
 use Rattle.forest.specs.Lent.{Input, Room, most, accept, when, naming, first, answered}
-use Rattle.forest.specs.Order.{ids, externals, order, repeat, placeIn, arranged}
+use Rattle.forest.specs.Order.{ids, externals, order, repeat, arranged}
 use Rattle.forest.specs.Validate.{badRecord, nodeFaults, validateRefusals, orAccepted, validate}
 use Rattle.forest.specs.declared.Reply.the-variants.{Accepted}
 use Rattle.claims.specs.Accepting.{far-inside, unreleased-all, records-bare, accepted-exactly-if}
 use Rattle.claims.specs.Again.{valid, ids-stay, valid-orderly}
 use Rattle.claims.specs.Checks.{first-none, naming-none, when-none, first-both}
-use Rattle.claims.specs.Origins.{Each, records-full, records-fit, canonical-records}
-use Rattle.claims.specs.Passing.{place-lt, result-passes}
+use Rattle.claims.specs.Children.{parent-below}
+use Rattle.claims.specs.Origins.{Each, arranged-each, canonical-records, records-written, no-node-written}
+use Rattle.claims.specs.Passing.{result-passes}
 use Rattle.claims.specs.Paths.{HasChild}
 use Rattle.claims.specs.Refusals.{canonicalize-refuses, IsAccepted, accepted-past}
-use Rattle.claims.specs.Releases.{order-below, length-order}
-use Rattle.claims.specs.Searches.{lowest-none, none-lowest, getD-mem}
+use Rattle.claims.specs.Releases.{length-order}
+use Rattle.claims.specs.Searches.{none-lowest, mem-at}
 
--- records that fit, are not bad and pass are accepted by Validate
-pub validates : (ns : List Node) → Each Fits ns → ((n : Node) → List·Memᴰ n ns → bad n ≡ false) → length ns ≤ most → first (nodeFaults ns) ≡ none → validate (flat nodeBytes ns) ≡ Accepted (length ns) 0
+-- children that are below their parents fit, so nodes that pass Validate's tests fit
+passing-fits : (ns : List Node) → Each Written ns → length ns ≤ most → first (nodeFaults ns) ≡ none → Each Fits ns
+unfolding at
+passing-fits ns w few e n m =
+    let (p, q) = mem-at noNode m in
+    written-fits n (w n m) (λ c k. small p c (rw q k))
+  where
+    small : (p c : ℕ) → HasChild ns p c → c < 256 ^ 4
+    small p c k = let a = (valid ns e) .kids p c k in let b = parent-below ns p c k in omega arith
+
+-- nodes of records that are not bad, written in an order that passes Validate's tests, are read again and accepted by Validate
+pub written-back : (ns : List Node) → Each Written ns → length ns ≤ most → first (nodeFaults ns) ≡ none → nodesOf (flat nodeBytes ns) ≡ ns
+written-back ns w few e = nodes-back ns (passing-fits ns w few e)
+
+pub validates : (ns : List Node) → Each Written ns → length ns ≤ most → first (nodeFaults ns) ≡ none → validate (flat nodeBytes ns) ≡ Accepted (length ns) 0
 unfolding validate validateRefusals badRecord first when naming orAccepted
-validates ns h good few e =
-    let l : length (flat nodeBytes ns) ≡ size * length ns = length-records ns (λ n m. (h n m) .full) in
+validates ns w few e =
+    let l : length (flat nodeBytes ns) ≡ size * length ns = length-records ns (λ n m. (w n m) .full) in
     let a : length (flat nodeBytes ns) / size ≡ length ns = omega arith in
     let b : length (flat nodeBytes ns) % size ≡ 0 = omega arith in
-    rw (a, b, le-ltb most (length ns) few, nodes-back ns h, none-lowest bad ns good) (ap (orAccepted (length ns)) e)
+    rw (a, b, le-ltb most (length ns) few, written-back ns w few e, none-lowest bad ns (λ n m. (w n m) .passes)) (ap (orAccepted (length ns)) e)
 
 -- CANONICALIZE'S OUTPUT ---------------------------------------------------------------------------
 
@@ -109,42 +122,19 @@ module _ (i : Input) (m : Room) (past : first (canonicalizeRefusals i m) ≡ non
           omega arith
 
   module _ (octets : Octets (i .nodes)) where
-    new-ids-fit : (p c : ℕ) → HasChild (forest i) p c → placeIn (order (forest i)) c < 256 ^ 4
-    new-ids-fit p c k =
-        let q : placeIn (order (forest i)) c < length (order (forest i)) = rw append-nil at (place-lt c (order (forest i)) [] (cleared .all-in c (cleared .inside p c k))) in
-        let z = length-order (forest i) (cleared .all-in) in
-        let y = length-nodesOf (i .nodes) in
-        let w = cleared .few in
-        omega arith
+    result-written : Each Written (result i)
+    result-written = arranged-each Written written-renumber no-node-written (forest i) (records-written (i .nodes) octets (cleared .good)) (order (forest i))
 
-    -- a node of the result is a node of the forest, renumbered
-    result-each : (P : Node → Type 0) → ((p : ℕ) → p < length (forest i) → P (renumber (placeIn (order (forest i))) (at (forest i) p))) → Each P (result i)
-    unfolding arranged
-    result-each P h n k = from (Memᴰ·of-map (λ p. renumber (placeIn (order (forest i))) (at (forest i) p)) (order (forest i)) k)
-      where
-        from : (p : ℕ) × List·Memᴰ p (order (forest i)) × (renumber (placeIn (order (forest i))) (at (forest i) p) ≡ n) → P n
-        from (p, q, e) = rw (sym e) (h p (order-below (forest i) p q))
-
-    record-in : (p : ℕ) → p < length (forest i) → List·Memᴰ (at (forest i) p) (forest i)
-    unfolding at
-    record-in p h = getD-mem (forest i) p noNode h
-
-    result-fits : Each Fits (result i)
-    result-fits = result-each Fits (λ p h. fits-renumber _ (at (forest i) p) (records-fit (i .nodes) octets _ (record-in p h)) (new-ids-fit p))
-
-    result-good : (n : Node) → List·Memᴰ n (result i) → bad n ≡ false
-    unfolding badRecord
-    result-good = result-each (λ n. bad n ≡ false) (λ p h. bad-renumber _ (at (forest i) p) ((records-full (i .nodes) _ (record-in p h)) .kids-long) (lowest-none bad (forest i) (naming-none _ _ (cleared .good)) _ (record-in p h)))
+    result-few : length (result i) ≤ most
+    result-few = let a = length-result in let b = length-nodesOf (i .nodes) in let c = cleared .few in omega arith
 
     -- Canonicalize's result passes Validate
     pub result-accepted : validate ((canonicalize i m) .room .nodes) ≡ Accepted (length (forest i)) 0
-    result-accepted =
-        rw (output, sym length-result)
-        (validates (result i) result-fits result-good (let a = length-result in let b = length-nodesOf (i .nodes) in let c = cleared .few in omega arith) result-passing)
+    result-accepted = rw (output, sym length-result) (validates (result i) result-written result-few result-passing)
 
     -- its records are read again as they were
     output-nodes : (j : Input) → j .nodes ≡ (canonicalize i m) .room .nodes → nodesOf (j .nodes) ≡ result i
-    output-nodes j e = ap nodesOf (e ∙ output) ∙ nodes-back (result i) result-fits
+    output-nodes j e = ap nodesOf (e ∙ output) ∙ written-back (result i) result-written result-few result-passing
 
     -- canonicalizing that again changes no id
     pub again : (j : Input) (r : Room) → j .nodes ≡ (canonicalize i m) .room .nodes → IsAccepted (canonicalize j r) → (canonicalize j r) .room .ids ≡ run 0 (length (forest i))

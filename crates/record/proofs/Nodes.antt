@@ -9,13 +9,13 @@ use native.Mathlib.Omega.{arith}
 use native.Mathlib.Nat.{pow-suc, pow-le-pow-right}
 use lib.Dec.{ltb, eqb}
 use borrow.Author.Tests.{ltb-false, eqb-true, not-false}
-use lib.ListN.{length, take, drop, length-append, length-take, length-drop, length-map}
+use lib.ListN.{length, take, drop, length-append, length-take, length-drop, length-map, take-append-drop}
 use lib.Seq.{drop-at}
 use Rattle.record.specs.Lists.{run, all, flat}
 use Rattle.record.specs.Node.{fields, words, size, lastKind, recordAt, nodeAt, nodesOf, nodeBytes, Class, external, block, internal, classOf, rank, class, isExternal, isBlock, isInternal, bad, children, renumber}
 use Rattle.record.specs.Number.{le, number, numbers}
 use Rattle.record.specs.declared.Node.{Node}
-use Rattle.record.proofs.Basics.{clash, either-false}
+use Rattle.record.proofs.Basics.{clash, both-true, either-false}
 use Rattle.record.proofs.Lengths.{length-numbers, length-run, Full, length-nodeBytes}
 use Rattle.record.proofs.RoundTrip.{Octets, Within, Fits, record-back}
 
@@ -175,28 +175,40 @@ fits-read s i h = record {
   digest-fits = numbers-within 8 words s (size * i + (8 + 4 * fields)) h;
 }
 
--- so does a node whose children were renumbered by numbers of 4 bytes
-pub fits-renumber : (f : ℕ → ℕ) (n : Node) → Fits n → ((c : ℕ) → List·Memᴰ c (children n) → f c < 256 ^ 4) → Fits (renumber f n)
-unfolding renumber children
-fits-renumber f n t h = record {
-  full = full-renumber f n (t .full);
-  kind-fits = t .kind-fits;
-  count-fits = t .count-fits;
-  kids-fit = λ x m. each x (List·Memᴰ·append-cases (map f (take (n .count) (n .kids))) m);
-  digest-fits = t .digest-fits;
-}
+-- what renumbering keeps of a record that is not bad
+pub record Written (n : Node) : Type 0 where
+  pub full : Full n
+  pub passes : bad n ≡ false
+  pub digest-fits : Within 8 (n .digest)
+
+pub written-read : (s : List ℕ) (i : ℕ) → Octets s → bad (nodeAt s i) ≡ false → Written (nodeAt s i)
+written-read s i h e = record { full = full-read s i; passes = e; digest-fits = (fits-read s i h) .digest-fits }
+
+pub written-renumber : (f : ℕ → ℕ) (n : Node) → Written n → Written (renumber f n)
+unfolding renumber
+written-renumber f n w = record { full = full-renumber f n (w .full); passes = bad-renumber f n (w .full .kids-long) (w .passes); digest-fits = w .digest-fits }
+
+zeros-fit : (l : List ℕ) → all (eqb 0) l ≡ true → Within 4 l
+unfolding all
+zeros-fit (y ∷ l) e x (List·Memᴰ·head q) = let z : 0 ≡ y = eqb-true 0 y ((both-true (eqb 0 y) (all (eqb 0) l) e) .0) in omega arith
+zeros-fit (y ∷ l) e x (List·Memᴰ·tail m) = zeros-fit l ((both-true (eqb 0 y) (all (eqb 0) l) e) .1) x m
+
+-- it fits the struct if its children do
+pub written-fits : (n : Node) → Written n → Within 4 (children n) → Fits n
+unfolding children
+written-fits n w h =
+    let g = good n (w .passes) in
+    record {
+      full = w .full;
+      kind-fits = let k = g .kind-low in omega arith;
+      count-fits = let c = g .count-few in omega arith;
+      kids-fit = λ x m. each x (List·Memᴰ·append-cases (take (n .count) (n .kids)) (rw take-append-drop m));
+      digest-fits = w .digest-fits;
+    }
   where
-    drop-from : (k : ℕ) (l : List ℕ) (x : ℕ) → List·Memᴰ x (drop k l) → List·Memᴰ x l
-    drop-from zero l x m = m
-    drop-from (suc k) [] x m = m
-    drop-from (suc k) (y ∷ l) x m = List·Memᴰ·tail (drop-from k l x m)
-
-    from : (x : ℕ) → (c : ℕ) × List·Memᴰ c (take (n .count) (n .kids)) × (f c ≡ x) → x < 256 ^ 4
-    from x (c, m, e) = rw (sym e) (h c m)
-
-    each : (x : ℕ) → List·Memᴰ x (map f (take (n .count) (n .kids))) ⊎ List·Memᴰ x (drop (n .count) (n .kids)) → x < 256 ^ 4
-    each x (inl m) = from x (Memᴰ·of-map f (take (n .count) (n .kids)) m)
-    each x (inr m) = t .kids-fit x (drop-from (n .count) (n .kids) x m)
+    each : (x : ℕ) → List·Memᴰ x (take (n .count) (n .kids)) ⊎ List·Memᴰ x (drop (n .count) (n .kids)) → x < 256 ^ 4
+    each x (inl m) = h x m
+    each x (inr m) = zeros-fit (drop (n .count) (n .kids)) ((good n (w .passes)) .unused-zero) x m
 
 -- ALL RECORDS -------------------------------------------------------------------------------------
 
