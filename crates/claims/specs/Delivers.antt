@@ -19,7 +19,7 @@ use Rattle.forest.specs.Walk.{Walked, going, cycle, deep, walk}
 use Rattle.forest.specs.declared.Reply.the-variants.{Accepted}
 use Rattle.claims.specs.Checks.{first-none, first-both}
 use Rattle.claims.specs.Cycles.{Passes}
-use Rattle.claims.specs.Merges.{merged-few, merged-passes, children-below, children-in-range, merged-valid, ids-in-range, roots-in-range, no-two-equal}
+use Rattle.claims.specs.Merges.{roots-few, merged-few, merged-passes, children-below, children-in-range, merged-valid, ids-in-range, roots-in-range, no-two-equal}
 use Rattle.claims.specs.Origins.{merged-records}
 use Rattle.claims.specs.Paths.{HasChild}
 use Rattle.claims.specs.Refusals.{merge-refuses, IsAccepted, accepted-past}

@@ -75,7 +75,7 @@ firsts-few seen (p ∷ ps) = go (has p seen) refl (firsts-few seen ps) (firsts-f
     go false e a b = rw (e, firsts) (omega arith)
 
 -- merged roots never outnumber the input's
-roots-few : (i : Input) (t : State) → length ((merged (graph i) (rootsOf i) t) .roots) ≤ length (i .roots)
+pub roots-few : (i : Input) (t : State) → length ((merged (graph i) (rootsOf i) t) .roots) ≤ length (i .roots)
 unfolding merged rootsOf forestsOf
 roots-few i t =
     let a = firsts-few [] (map (carried t (order (t .merged))) (rootsOf i)) in
