@@ -15,10 +15,6 @@ use Rattle.claims.specs.Distinct.{Distinct, fresh}
 use Rattle.claims.specs.Sorts.{Linked, linked-nil, linked-one, linked, linked-rest, sort-sorted}
 
 module _ (g : List Node) where
-  lower-asym : (p q : ℕ) → lower g p q ≡ true → lower g q p ≡ false
-  unfolding lower
-  lower-asym p q = before-asym ((at g p) .digest) ((at g q) .digest)
-
   -- sorted, and no two neighbours alike: each goes before the next
   strict : {l : List ℕ} → Linked (λ p q. lower g q p ≡ false) l → repeat g l ≡ none → Linked (λ p q. lower g p q ≡ true) l
   unfolding repeat lower
