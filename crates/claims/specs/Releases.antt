@@ -120,7 +120,7 @@ module _ (g : List Node) where
   unfolding blocks ids
   blocks-distinct = keep-distinct _ (run-distinct 0 (length g))
 
-  begun-distinct : Distinct (begun g)
+  pub begun-distinct : Distinct (begun g)
   unfolding begun
   begun-distinct = distinct-append (blocks g) externals-distinct blocks-distinct (λ x m n. not-both (at g x) ((externals-in x m) .0) ((blocks-in x n) .0))
 

@@ -1,0 +1,16 @@
+pub mod Rest
+pub mod Options
+pub mod Lowest
+pub mod Last
+pub mod Faults
+pub mod Refusals
+pub mod Linking
+pub mod Counting
+pub mod Settling
+pub mod Appending
+pub mod Releasing
+pub mod Enlisting
+pub mod Opening
+pub mod Marking
+pub mod Filling
+pub mod Records

@@ -1,0 +1,4 @@
+pub mod Found
+pub mod Mentions
+pub mod State
+pub mod Marks

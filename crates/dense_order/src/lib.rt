@@ -1,0 +1,161 @@
+// Validate: whether node records stand in dense order.
+ghost use mathlib.Core.Path.{_≡_};
+ghost use lib.Dec.{leb};
+ghost use Rattle.record.specs.Order.{before};
+ghost use Rattle.record.specs.Node.{nodesOf, bad, children, class, rank};
+ghost use Rattle.forest.specs.Lists.{lowest, lastOf};
+ghost use Rattle.forest.specs.Lent.{first};
+ghost use Rattle.forest.specs.Validate.{forward as forwardOf, fault as faultOf, nodeFaults, validate as validated};
+ghost use Rattle.room.specs.Places.{placeOf};
+ghost use Rattle.dense_order.specs.Found.{kidOf, checkOf};
+use forest::Reply;
+use record::Node;
+use record::Order;
+use room::Place;
+
+mod deliver;
+mod order;
+
+// The most nodes and the most roots of a forest, the source's MAX_NODES.
+pub const MOST: usize = 1073741823;
+
+// The lowest and the highest class: externals, then blocks, then internal nodes.
+const EXTERNAL: u32 = 0;
+
+const INTERNAL: u32 = 2;
+
+// A child of a node.
+pub enum Kid {
+    Child(u32),
+    Childless,
+}
+
+// What a check says.
+enum Check {
+    Passed,
+    Refused(Reply),
+}
+
+// The lowest bad record of the whole ones: a part of a record at the end does not matter.
+pub fn first_bad(nodes: &[u8]) -> Place
+    ensures { λ r. ⌜ r ≡ placeOf (lowest bad (nodesOf (now (nodes .entry)))) ⌝ }
+{
+    let n = nodes.len() / record::SIZE;
+    let mut i = 0;
+    while i < n {
+        if record::bad(record::node_at(nodes, i)) {
+            return Place::At(i);
+        }
+        i += 1;
+    }
+    Place::Nothing
+}
+
+// The last child of a node that is at or above `low`.
+pub fn last_from(n: Node, low: usize) -> Kid
+    ensures { λ r. ⌜ r ≡ kidOf (lastOf (leb low) (children n)) ⌝ }
+{
+    let kids = n.kids;
+    let mut left = record::FIELDS;
+    while 0 < left {
+        let i = left - 1;
+        let kid = kids[i];
+        if (i < n.count as usize) & (low <= kid as usize) {
+            return Kid::Child(kid);
+        }
+        left -= 1;
+    }
+    Kid::Childless
+}
+
+// The class of a node, as a number in the order of the classes.
+fn order_class(n: Node) -> u32
+    ensures { λ r. ⌜ r ≡ rank (class n) ⌝ }
+{
+    if n.kind < INTERNAL { n.kind } else { INTERNAL }
+}
+
+// Whether one digest goes before another.
+fn goes_before(a: [u64; record::WORDS], b: [u64; record::WORDS]) -> bool
+    ensures { λ r. ⌜ r ≡ before a b ⌝ }
+{
+    let order = record::compare(a, b);
+    match order {
+        Order::Less => true,
+        Order::Equal => false,
+        Order::Greater => false,
+    }
+}
+
+// Refuses node `i` for its last child that is not below it.
+fn forward(i: usize, node: Node) -> Check
+    ensures { λ r. ⌜ r ≡ checkOf (forwardOf i node) ⌝ }
+{
+    let forward_child = last_from(node, i);
+    match forward_child {
+        Kid::Child(child) => Check::Refused(Reply::ForwardReference(i as u64, child as u64)),
+        Kid::Childless => Check::Passed,
+    }
+}
+
+// Refuses node `i` for what is wrong with it first, after the node before it.
+fn fault(i: usize, previous: Node, node: Node) -> Check
+    ensures { λ r. ⌜ r ≡ checkOf (faultOf i previous node) ⌝ }
+{
+    let previous_class = order_class(previous);
+    let node_class = order_class(node);
+    if node_class < previous_class {
+        return Check::Refused(Reply::ClassOrder(i as u64));
+    }
+    let previous_digest = previous.digest;
+    let digest = node.digest;
+    let increasing = goes_before(previous_digest, digest);
+    if (node_class == EXTERNAL) & ((previous_class == EXTERNAL) & !increasing) {
+        return Check::Refused(Reply::DigestOrder(i as u64));
+    }
+    forward(i, node)
+}
+
+// Refuses the first of the whole records that is not in dense order.
+fn validate_dense_node_order(nodes: &[u8]) -> Check
+    ensures { λ r. ⌜ r ≡ checkOf (first (nodeFaults (nodesOf (now (nodes .entry))))) ⌝ }
+{
+    let n = nodes.len() / record::SIZE;
+    if n == 0 {
+        return Check::Passed;
+    }
+    let mut previous = record::node_at(nodes, 0);
+    if let Check::Refused(reply) = forward(0, previous) {
+        return Check::Refused(reply);
+    }
+    let mut i = 1;
+    while i < n {
+        let node = record::node_at(nodes, i);
+        if let Check::Refused(reply) = fault(i, previous, node) {
+            return Check::Refused(reply);
+        }
+        previous = node;
+        i += 1;
+    }
+    Check::Passed
+}
+
+// Whether node records stand in dense order: too many, a part of a record, a bad record, then node by node.
+pub fn validate(nodes: &[u8]) -> Reply
+    ensures { λ r. ⌜ r ≡ validated (now (nodes .entry)) ⌝ }
+{
+    let n = nodes.len() / record::SIZE;
+    if MOST < n {
+        return Reply::TooMany;
+    }
+    if nodes.len() % record::SIZE != 0 {
+        return Reply::BadBuffers(2);
+    }
+    if let Place::At(i) = first_bad(nodes) {
+        return Reply::BadRecord(i as u64);
+    }
+    if let Check::Refused(reply) = validate_dense_node_order(nodes) {
+        return reply;
+    }
+    Reply::Accepted(n as u64, 0)
+}

@@ -1,0 +1,141 @@
+// The order of a forest's nodes: externals by digest, blocks by id, then internals, always the lowest whose children are all in the order.
+ghost use mathlib.Core.Path.{_≡_};
+ghost use mathlib.Core.Bool.{true};
+ghost use Prim.Native.Nat.{_+_, _*_, _<_, _≤_};
+ghost use lib.ListN.{length, getD};
+ghost use Rattle.record.specs.Node.{nodesOf};
+ghost use Rattle.forest.specs.Order.{ready};
+ghost use Rattle.room.specs.Sections.{span};
+ghost use Rattle.ready.specs.Tree.{Tree};
+ghost use Rattle.dense_order.specs.State.{countsAt, readyAt, Standing, Resolved, Settles, Appends, Begun, Released, Enlisted, Links, Enlists, Fresh, Opened};
+use record::FIELDS;
+use room::Place;
+
+// The sections of the work room, of n words each: the order from 0 on, then these. The tree has two, the links one a child field.
+pub(crate) const PLACES: usize = 1;
+
+const HEADS: usize = 2;
+
+const COUNTS: usize = 3;
+
+const READY: usize = 4;
+
+const LINKS: usize = 6;
+
+// Counts one of p's children off; p is ready after the last.
+fn resolve(work: &mut [u32], n: usize, p: usize)
+    requires { ⌜ (p < n) × (n ≤ 1073741823) ⌝ }
+    requires { ⌜ 0 < getD (now work) (countsAt n + p) 0 ⌝ }
+    requires { ⌜ Tree (now work) (readyAt n) n ⌝ }
+    ensures { λ _. ⌜ Resolved (now (work .entry)) (now (work .exit)) n p ⌝ }
+{
+    let left = work[COUNTS * n + p] - 1;
+    work[COUNTS * n + p] = left;
+    if 0 < left {
+        return;
+    }
+    ready::put(work, READY * n, n, p);
+}
+
+// Settles the id at place t of the order: each mention of it is counted off.
+fn settle(nodes: &[u8], work: &mut [u32], n: usize, filled: usize, t: usize)
+    requires { ⌜ Standing (now nodes) (now work) n filled t ⌝ }
+    requires { ⌜ t < filled ⌝ }
+    ensures { λ _. ⌜ Settles (now (nodes .entry)) (now (work .entry)) (now (work .exit)) n filled (t + 1) ⌝ }
+{
+    let id = work[t] as usize;
+    let mut at = work[HEADS * n + id] as usize;
+    while 0 < at {
+        let mention = at - 1;
+        resolve(work, n, mention / FIELDS);
+        at = work[LINKS * n + mention] as usize;
+    }
+}
+
+// Settles all ids of the order.
+fn settle_all(nodes: &[u8], work: &mut [u32], n: usize, filled: usize)
+    requires { ⌜ Standing (now nodes) (now work) n filled 0 ⌝ }
+    ensures { λ _. ⌜ Settles (now (nodes .entry)) (now (work .entry)) (now (work .exit)) n filled filled ⌝ }
+{
+    let mut t = 0;
+    while t < filled {
+        settle(nodes, work, n, filled, t);
+        t += 1;
+    }
+}
+
+// Takes the ready id p into the order and settles it.
+fn append(nodes: &[u8], work: &mut [u32], n: usize, filled: usize, p: usize)
+    requires { ⌜ Standing (now nodes) (now work) n filled filled ⌝ }
+    requires { ⌜ (p < n) × (filled < n) ⌝ }
+    requires { ⌜ ready (nodesOf (now nodes)) (span (now work) 0 filled) p ≡ true ⌝ }
+    ensures { λ _. ⌜ Appends (now (nodes .entry)) (now (work .entry)) (now (work .exit)) n filled p ⌝ }
+{
+    ready::remove(work, READY * n, n, p);
+    work[filled] = p as u32;
+    settle(nodes, work, n, filled + 1, filled);
+}
+
+// Takes ready ids into the order, always the lowest, until none is ready; says how many ids the order then has.
+fn release(nodes: &[u8], work: &mut [u32], n: usize, begun: usize) -> usize
+    requires { ⌜ Begun (now nodes) (now work) n begun ⌝ }
+    ensures { λ r. ⌜ Released (now (nodes .entry)) (now (work .exit)) n r ⌝ }
+{
+    let mut filled = begun;
+    while filled < n {
+        let found = ready::lowest(work, READY * n, n);
+        let Place::At(p) = found else {
+            return filled;
+        };
+        append(nodes, work, n, filled, p);
+        filled += 1;
+    }
+    filled
+}
+
+// Links the mentions that p makes, each to the one before it that names the same child; says how many they are.
+fn link_kids(nodes: &[u8], work: &mut [u32], n: usize, p: usize) -> u32
+    requires { ⌜ Enlisted (now nodes) (now work) n p ⌝ }
+    requires { ⌜ p < n ⌝ }
+    ensures { λ r. ⌜ Links (now (nodes .entry)) (now (work .entry)) (now (work .exit)) n p r ⌝ }
+{
+    let node = record::node_at(nodes, p);
+    let kids = node.kids;
+    let count = node.count as usize;
+    let mut j = 0;
+    while j < count {
+        let mention = FIELDS * p + j;
+        let head = HEADS * n + kids[j] as usize;
+        work[LINKS * n + mention] = work[head];
+        work[head] = (mention + 1) as u32;
+        j += 1;
+    }
+    node.count
+}
+
+// Enlists p: it waits for each child that it names, as often as it names it, and is ready if it is internal and names none.
+fn enlist(nodes: &[u8], work: &mut [u32], n: usize, p: usize)
+    requires { ⌜ Enlisted (now nodes) (now work) n p ⌝ }
+    requires { ⌜ p < n ⌝ }
+    ensures { λ _. ⌜ Enlists (now (nodes .entry)) (now (work .entry)) (now (work .exit)) n p ⌝ }
+{
+    let count = link_kids(nodes, work, n, p);
+    let kind = record::kind_at(nodes, p);
+    work[COUNTS * n + p] = count;
+    if (kind < 2) | (0 < count) {
+        return;
+    }
+    ready::put(work, READY * n, n, p);
+}
+
+// Enlists all ids.
+fn enlist_all(nodes: &[u8], work: &mut [u32], n: usize, filled: usize)
+    requires { ⌜ Fresh (now nodes) (now work) n filled ⌝ }
+    ensures { λ _. ⌜ Opened (now (nodes .entry)) (now (work .exit)) n filled ⌝ }
+{
+    let mut p = 0;
+    while p < n {
+        enlist(nodes, work, n, p);
+        p += 1;
+    }
+}

@@ -1,0 +1,10 @@
+pub mod SortLaws
+pub mod LastLaws
+pub mod Agree
+pub mod Orders
+pub mod Elements
+pub mod Merges
+pub mod Sorts
+pub mod Finds
+pub mod Callers
+pub mod Uses
