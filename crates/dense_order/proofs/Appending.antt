@@ -10,7 +10,6 @@ use native.Mathlib.Decide.{ℕ-discrete}
 use lib.Dec.{eqb}
 use borrow.Author.Tests.{eqb-true, not-true, eq-eqb, ne-eqb}
 use lib.ListN.{length, take, getD, set, length-set}
-use Rattle.room.proofs.Spans.{span-length, span-same, span-set}
 use lib.Seq.{take-at, take-all, getD-set-other}
 use Rattle.record.specs.Node.{nodesOf, isInternal}
 use Rattle.record.proofs.Basics.{both-true}

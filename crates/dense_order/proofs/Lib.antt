@@ -14,3 +14,12 @@ pub mod Opening
 pub mod Marking
 pub mod Filling
 pub mod Records
+pub mod Gathering
+pub mod Finishing
+pub mod RootRange
+pub mod ChildRange
+pub mod Repeats
+pub mod Fairness
+pub mod Arranging
+pub mod Delivering
+pub mod Answering

@@ -10,7 +10,6 @@ use native.Mathlib.Decide.{ℕ-discrete}
 use lib.Dec.{ltb, eqb}
 use borrow.Author.Tests.{ltb-true, ltb-false, eq-eqb, ne-eqb}
 use lib.ListN.{length, getD, set, length-set}
-use Rattle.room.proofs.Spans.{span-same}
 use lib.Seq.{getD-set-same, getD-set-other}
 use Rattle.record.specs.Node.{fields, nodeAt, nodesOf, isInternal, children}
 use Rattle.record.specs.declared.Node.{Node}

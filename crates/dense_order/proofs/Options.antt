@@ -5,19 +5,11 @@ use mathlib.Core.Path.{_≡_, refl}
 use mathlib.Core.Option.{Option, some, none}
 use Rattle.record.proofs.Basics.{clash}
 use Rattle.forest.specs.declared.Reply.{Reply}
-use Rattle.dense_order.specs.Found.{kidOf, checkOf}
-use Rattle.room.specs.Places.{placeOf}
-use Rattle.room.specs.declared.Place.the-variants.{At, Nothing}
+use Rattle.dense_order.specs.Found.{kidOf, farOf, checkOf}
 use Rattle.dense_order.specs.declared.Kid.the-variants.{Child, Childless}
+use Rattle.dense_order.specs.declared.Far.{Far}
+use Rattle.dense_order.specs.declared.Far.the-variants.{Nowhere}
 use Rattle.dense_order.specs.declared.Check.the-variants.{Passed, Refused}
-
-pub at-some : (o : Option ℕ) (i : ℕ) → placeOf o ≡ At i → o ≡ some i
-at-some none i e = absurd (clash (cc))
-at-some (some j) i e = cc
-
-pub nothing-none : (o : Option ℕ) → placeOf o ≡ Nothing → o ≡ none
-nothing-none none e = refl
-nothing-none (some j) e = absurd (clash (cc))
 
 pub child-some : (o : Option ℕ) (c : ℕ) → kidOf o ≡ Child c → o ≡ some c
 unfolding kidOf
@@ -28,6 +20,11 @@ pub childless-none : (o : Option ℕ) → kidOf o ≡ Childless → o ≡ none
 unfolding kidOf
 childless-none none e = refl
 childless-none (some d) e = absurd (clash (cc))
+
+pub nowhere-none : (o : Option (ℕ × ℕ)) (r : Far) → r ≡ farOf o → r ≡ Nowhere → o ≡ none
+unfolding farOf
+nowhere-none none r e q = refl
+nowhere-none (some d) r e q = absurd (clash cc)
 
 pub refused-some : (o : Option Reply) (r : Reply) → checkOf o ≡ Refused r → o ≡ some r
 unfolding checkOf

@@ -1,7 +1,7 @@
 -- Validate's answer by its checks, one after the other.
 -- Assumes nothing.
 use Prim.Native.Nat.{ℕ, _/_, _%_, _<_, _≤_}
-use mathlib.Core.Path.{_≡_}
+use mathlib.Core.Path.{_≡_, refl}
 use mathlib.Core.List.{List}
 use borrow.Author.Tests.{lt-ltb, le-ltb, eq-eqb, ne-eqb}
 use lib.ListN.{length}
@@ -14,8 +14,9 @@ use Rattle.forest.specs.declared.Reply.the-variants.{Accepted, BadBuffers, TooM
 use Rattle.dense_order.specs.Found.{checkOf}
 use Rattle.room.specs.Places.{placeOf}
 use Rattle.room.specs.declared.Place.the-variants.{At, Nothing}
+use Rattle.room.proofs.Answers.{at-some, nothing-none}
 use Rattle.dense_order.specs.declared.Check.the-variants.{Passed, Refused}
-use Rattle.dense_order.proofs.Options.{at-some, nothing-none, refused-some, passed-none}
+use Rattle.dense_order.proofs.Options.{refused-some, passed-none}
 
 module _ (b : List ℕ) where
   pub too-many : most < length b / size → TooMany ≡ validate b
@@ -30,12 +31,12 @@ module _ (b : List ℕ) where
     module _ (whole : length b % size ≡ 0) where
       pub record-bad : (i : ℕ) → placeOf (lowest bad (nodesOf b)) ≡ At i → BadRecord i ≡ validate b
       unfolding validate validateRefusals badRecord when naming first orAccepted
-      record-bad i e = rw (le-ltb most (length b / size) few, eq-eqb (length b % size) 0 whole, at-some (lowest bad (nodesOf b)) i e)
+      record-bad i e = rw (le-ltb most (length b / size) few, eq-eqb (length b % size) 0 whole, at-some (lowest bad (nodesOf b)) _ i refl e)
 
       module _ (good : placeOf (lowest bad (nodesOf b)) ≡ Nothing) where
         checked : validate b ≡ orAccepted (length b / size) (first (nodeFaults (nodesOf b)))
         unfolding validate validateRefusals badRecord when naming first
-        checked = rw (le-ltb most (length b / size) few, eq-eqb (length b % size) 0 whole, nothing-none (lowest bad (nodesOf b)) good)
+        checked = rw (le-ltb most (length b / size) few, eq-eqb (length b % size) 0 whole, nothing-none (lowest bad (nodesOf b)) _ refl good)
 
         pub order-refused : (r : Reply) → checkOf (first (nodeFaults (nodesOf b))) ≡ Refused r → r ≡ validate b
         unfolding orAccepted

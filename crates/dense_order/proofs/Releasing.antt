@@ -8,7 +8,6 @@ use mathlib.Core.Logic.{_⊎_, inl, inr}
 use mathlib.Core.Option.{some, none}
 use native.Mathlib.Omega.{arith}
 use lib.ListN.{length, take}
-use Rattle.room.proofs.Spans.{span-length}
 use lib.Seq.{take-all}
 use Rattle.record.specs.Lists.{run, all}
 use Rattle.record.specs.Node.{nodesOf, isInternal, children}
@@ -31,7 +30,7 @@ pub record Releasing (s w : List ℕ) (n begun filled : ℕ) : Type 0 where
   pub standing : Standing s w n filled filled
   pub whole : order (nodesOf s) ≡ span w 0 filled ++ released (nodesOf s) (n - (filled - begun)) (span w 0 filled)
 
-lowest-agree : (t u : ℕ → Bool) (a n : ℕ) → ((x : ℕ) → a ≤ x → x < a + n → t x ≡ u x) → lowest t (run a n) ≡ lowest u (run a n)
+pub lowest-agree : (t u : ℕ → Bool) (a n : ℕ) → ((x : ℕ) → a ≤ x → x < a + n → t x ≡ u x) → lowest t (run a n) ≡ lowest u (run a n)
 unfolding lowest run
 lowest-agree t u a zero h = refl
 lowest-agree t u a (suc n) h = rw (h a (omega arith) (omega arith), lowest-agree t u (suc a) n (λ x p q. h x (omega arith) (omega arith)))

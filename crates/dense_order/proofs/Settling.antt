@@ -9,7 +9,6 @@ use native.Mathlib.Omega.{arith}
 use lib.Dec.{ltb}
 use borrow.Author.Tests.{ltb-true, eqb-true, eq-eqb, ne-eqb}
 use lib.ListN.{length, take, getD}
-use Rattle.room.proofs.Spans.{span-length, span-at, span-same}
 use Rattle.record.specs.Node.{fields, nodesOf, children}
 use Rattle.record.specs.declared.Node.{Node}
 use Rattle.record.proofs.Basics.{both-true}

@@ -6,11 +6,12 @@ ghost use Prim.Native.Nat.{ℕ, _+_, _*_, _<_, _≤_};
 ghost use lib.Dec.{eqb};
 ghost use lib.ListN.{length, getD};
 ghost use Rattle.record.specs.Lists.{run, flat};
-ghost use Rattle.record.specs.Node.{fields, nodeAt, nodeBytes, children, renumber};
+ghost use Rattle.record.specs.Node.{size, fields, nodeAt, nodeBytes, children, renumber};
 ghost use Rattle.forest.specs.Lists.{lowest};
 ghost use Rattle.room.specs.Sections.{span};
 ghost use Rattle.room.specs.Places.{placeOf};
 ghost use Rattle.dense_order.specs.Marks.{newId, Placed, Unmarked, Marked, Writable};
+ghost use Rattle.dense_order.specs.Steps.{Deliverable, Delivered};
 use record::Node;
 use room::Place;
 
@@ -112,4 +113,23 @@ pub(crate) fn write_ids(work: &[u32], n: usize, ids: &mut [u32])
         ids[p] = new_id(work, n, p);
         p += 1;
     }
+}
+
+// Writes nodes, roots and ids of an arranged forest.
+pub(crate) fn deliver(
+    nodes: &[u8],
+    roots: &[u32],
+    work: &[u32],
+    n: usize,
+    node_out: &mut [u8],
+    root_out: &mut [u32],
+    ids: &mut [u32],
+)
+    requires { ⌜ Deliverable (now nodes) (now roots) (now work) n ⌝ }
+    requires { ⌜ (length (now «node_out») ≡ size * n) × ((length (now «root_out») ≡ length (now roots)) × (length (now ids) ≡ n)) ⌝ }
+    ensures { λ _. ⌜ Delivered (now (nodes .entry)) (now (roots .entry)) (now («node_out» .exit)) (now («root_out» .exit)) (now (ids .exit)) ⌝ }
+{
+    write_nodes(nodes, work, n, node_out);
+    write_roots(roots, work, n, root_out);
+    write_ids(work, n, ids);
 }

@@ -8,6 +8,12 @@ ghost use Rattle.forest.specs.Lent.{first};
 ghost use Rattle.forest.specs.Validate.{forward as forwardOf, fault as faultOf, nodeFaults, validate as validated};
 ghost use Rattle.room.specs.Places.{placeOf};
 ghost use Rattle.dense_order.specs.Found.{kidOf, checkOf};
+ghost use Rattle.forest.specs.Canonicalize.{disorders, canonicalize as canonicalized};
+ghost use Rattle.forest.specs.Validate.{badRecord};
+ghost use mathlib.Core.List.{[]};
+ghost use mathlib.Core.Option.{none};
+ghost use Rattle.dense_order.specs.Kinds.{Blank};
+ghost use Rattle.dense_order.specs.Steps.{sizeChecks, forestChecks, Fitting, Answers};
 use forest::Reply;
 use record::Node;
 use record::Order;
@@ -15,9 +21,13 @@ use room::Place;
 
 mod deliver;
 mod order;
+mod ranges;
 
 // The most nodes and the most roots of a forest, the source's MAX_NODES.
 pub const MOST: usize = 1073741823;
+
+// The words of work room that a node wants.
+pub const WORK_WORDS: usize = 16;
 
 // The lowest and the highest class: externals, then blocks, then internal nodes.
 const EXTERNAL: u32 = 0;
@@ -28,6 +38,12 @@ const INTERNAL: u32 = 2;
 pub enum Kid {
     Child(u32),
     Childless,
+}
+
+// A node and a child of it past the end.
+enum Far {
+    At(usize, u32),
+    Nowhere,
 }
 
 // What a check says.
@@ -158,4 +174,102 @@ pub fn validate(nodes: &[u8]) -> Reply
         return reply;
     }
     Reply::Accepted(n as u64, 0)
+}
+
+// Refuses too many nodes or roots, and the lowest buffer whose length is wrong.
+fn sizes(
+    nodes: usize,
+    roots: usize,
+    records: usize,
+    starts: usize,
+    ids: usize,
+    work: usize,
+) -> Check
+    ensures { λ r. ⌜ r ≡ checkOf (first (sizeChecks nodes roots records starts ids work)) ⌝ }
+{
+    let n = nodes / record::SIZE;
+    if (MOST < n) | (MOST < roots) {
+        return Check::Refused(Reply::TooMany);
+    }
+    if nodes % record::SIZE != 0 {
+        return Check::Refused(Reply::BadBuffers(2));
+    }
+    if records != nodes {
+        return Check::Refused(Reply::BadBuffers(4));
+    }
+    if starts != roots {
+        return Check::Refused(Reply::BadBuffers(5));
+    }
+    if ids != n {
+        return Check::Refused(Reply::BadBuffers(6));
+    }
+    if work < WORK_WORDS * n {
+        return Check::Refused(Reply::BadBuffers(7));
+    }
+    Check::Passed
+}
+
+// Arranges a forest in a room of zeros, unless two externals have one digest, a child is past the end, or an internal is never released.
+fn arranged(nodes: &[u8], work: &mut [u32], n: usize) -> Check
+    requires { ⌜ Blank (now nodes) (now work) n ⌝ }
+    requires { ⌜ badRecord (now nodes) ≡ none ⌝ }
+    ensures { λ r. ⌜ Answers (disorders (nodesOf (now (nodes .entry)))) (now (nodes .entry)) (now (work .exit)) n r ⌝ }
+{
+    let externals = order::list_externals(nodes, work, n);
+    if let Place::At(p) = ranges::repeated(nodes, work, externals) {
+        return Check::Refused(Reply::DuplicateExternal(p as u64));
+    }
+    if let Far::At(p, child) = ranges::far_child(nodes) {
+        return Check::Refused(Reply::ChildRange(p as u64, child as u64));
+    }
+    if let Place::At(p) = order::final_dense_node_order(nodes, work, n, externals) {
+        return Check::Refused(Reply::Cycle(p as u64));
+    }
+    Check::Passed
+}
+
+// Arranges a forest in the room, unless a record is bad, a root past the end, or the forest has no order.
+fn examined(nodes: &[u8], roots: &[u32], work: &mut [u32], n: usize) -> Check
+    requires { ⌜ Fitting (now nodes) (now work) n ⌝ }
+    ensures { λ r. ⌜ Answers (forestChecks (now (nodes .entry)) (now (roots .entry))) (now (nodes .entry)) (now (work .exit)) n r ⌝ }
+{
+    if let Place::At(p) = first_bad(nodes) {
+        return Check::Refused(Reply::BadRecord(p as u64));
+    }
+    if let Place::At(i) = ranges::far_root(roots, n) {
+        return Check::Refused(Reply::RootRange(i as u64));
+    }
+    room::clear(work);
+    arranged(nodes, work, n)
+}
+
+// One forest in its canonical order: too many, sizes, a bad record, a root past the end, externals of one digest, a child past the end, a cycle.
+pub fn canonicalize(
+    nodes: &[u8],
+    roots: &[u32],
+    node_out: &mut [u8],
+    root_out: &mut [u32],
+    ids: &mut [u32],
+    work: &mut [u32],
+) -> Reply
+    ensures { λ r. ⌜ canonicalized (record { table = []; nodes = now (nodes .entry); roots = now (roots .entry) }) (record { nodes = now («node_out» .entry); roots = now («root_out» .entry); ids = now (ids .entry); work = now (work .entry) }) ≡ record { reply = r; room = record { nodes = now («node_out» .exit); roots = now («root_out» .exit); ids = now (ids .exit); work = now (work .exit) } } ⌝ }
+{
+    let n = nodes.len() / record::SIZE;
+    if let Check::Refused(reply) = sizes(
+        nodes.len(),
+        roots.len(),
+        node_out.len(),
+        root_out.len(),
+        ids.len(),
+        work.len(),
+    ) {
+        return reply;
+    }
+    if let Check::Refused(reply) = examined(nodes, roots, work, n) {
+        room::clear(work);
+        return reply;
+    }
+    deliver::deliver(nodes, roots, work, n, node_out, root_out, ids);
+    room::clear(work);
+    Reply::Accepted(n as u64, roots.len() as u64)
 }

@@ -7,9 +7,16 @@ ghost use Rattle.record.specs.Node.{nodesOf};
 ghost use Rattle.forest.specs.Order.{ready};
 ghost use Rattle.room.specs.Sections.{span};
 ghost use Rattle.ready.specs.Tree.{Tree};
-ghost use Rattle.dense_order.specs.State.{countsAt, readyAt, Standing, Resolved, Settles, Appends, Begun, Released, Enlisted, Links, Enlists, Fresh, Opened};
+ghost use Rattle.dense_order.specs.Kinds.{Space, Kinds, Blank, Externals, Ordered};
+ghost use Rattle.dense_order.specs.State.{Fair, countsAt, readyAt, Standing, Resolved, Settles, Appends, Begun, Released, Enlisted, Links, Enlists, Fresh, Opened};
+use crate::deliver;
 use record::FIELDS;
 use room::Place;
+
+// The kinds of externals and blocks.
+const EXTERNAL: u32 = 0;
+
+const BLOCK: u32 = 1;
 
 // The sections of the work room, of n words each: the order from 0 on, then these. The tree has two, the links one a child field.
 pub(crate) const PLACES: usize = 1;
@@ -21,6 +28,35 @@ const COUNTS: usize = 3;
 const READY: usize = 4;
 
 const LINKS: usize = 6;
+
+// Lists the ids of one kind from place `to` on; says how many they are.
+fn list_kind(nodes: &[u8], work: &mut [u32], n: usize, to: usize, kind: u32) -> usize
+    requires { ⌜ Space (now nodes) (now work) n to ⌝ }
+    ensures { λ r. ⌜ Kinds (now (nodes .entry)) (now (work .entry)) (now (work .exit)) to kind r ⌝ }
+{
+    let mut count = 0;
+    let mut p = 0;
+    while p < n {
+        if record::kind_at(nodes, p) != kind {
+            p += 1;
+            continue;
+        }
+        work[to + count] = p as u32;
+        count += 1;
+        p += 1;
+    }
+    count
+}
+
+// Lists the externals by digest in a room of zeros; says how many they are.
+pub(crate) fn list_externals(nodes: &[u8], work: &mut [u32], n: usize) -> usize
+    requires { ⌜ Blank (now nodes) (now work) n ⌝ }
+    ensures { λ r. ⌜ Externals (now (nodes .entry)) (now (work .exit)) n r ⌝ }
+{
+    let count = list_kind(nodes, work, n, 0, EXTERNAL);
+    sorting::sort_by_digest(nodes, work, 0, count, HEADS * n);
+    count
+}
 
 // Counts one of p's children off; p is ready after the last.
 fn resolve(work: &mut [u32], n: usize, p: usize)
@@ -138,4 +174,44 @@ fn enlist_all(nodes: &[u8], work: &mut [u32], n: usize, filled: usize)
         enlist(nodes, work, n, p);
         p += 1;
     }
+}
+
+// Lists the blocks behind the externals and settles both; says how many they are together.
+fn begin(nodes: &[u8], work: &mut [u32], n: usize, externals: usize) -> usize
+    requires { ⌜ Fair (now nodes) n ⌝ }
+    requires { ⌜ 16 * n ≤ length (now work) ⌝ }
+    requires { ⌜ Externals (now nodes) (now work) n externals ⌝ }
+    ensures { λ r. ⌜ Begun (now (nodes .entry)) (now (work .exit)) n r ⌝ }
+{
+    let blocks = list_kind(nodes, work, n, externals, BLOCK);
+    let filled = externals + blocks;
+    enlist_all(nodes, work, n, filled);
+    settle_all(nodes, work, n, filled);
+    filled
+}
+
+// Releases the internals and marks the place of each id; answers the lowest id that is never released.
+fn finish(nodes: &[u8], work: &mut [u32], n: usize, begun: usize) -> Place
+    requires { ⌜ Begun (now nodes) (now work) n begun ⌝ }
+    ensures { λ r. ⌜ Ordered (now (nodes .entry)) (now (work .exit)) n r ⌝ }
+{
+    let filled = release(nodes, work, n, begun);
+    deliver::mark_places(work, n, filled);
+    deliver::first_unplaced(work, n)
+}
+
+// Puts blocks and internals behind the externals; answers the lowest id that is never released.
+pub(crate) fn final_dense_node_order(
+    nodes: &[u8],
+    work: &mut [u32],
+    n: usize,
+    externals: usize,
+) -> Place
+    requires { ⌜ Fair (now nodes) n ⌝ }
+    requires { ⌜ 16 * n ≤ length (now work) ⌝ }
+    requires { ⌜ Externals (now nodes) (now work) n externals ⌝ }
+    ensures { λ r. ⌜ Ordered (now (nodes .entry)) (now (work .exit)) n r ⌝ }
+{
+    let begun = begin(nodes, work, n, externals);
+    finish(nodes, work, n, begun)
 }

@@ -1,14 +1,10 @@
-use Rattle.dense_order.proofs.Enlisting.{Chaining, Field, chaining-start, field-is, field-linked, fields-linked, record-inside}
-use borrow.Author.Needs.{needs}
-use lib.ListN.{length, getD, length-set}
-use native.Mathlib.Omega.{arith}
 use Prim.Native.Nat.{_-_}
-use mathlib.Core.Path.{_≡_, refl, _∙_}
+use mathlib.Core.Path.{_≡_, _∙_}
+use native.Mathlib.Omega.{arith}
+use lib.ListN.{length, getD, length-set}
+use Rattle.dense_order.proofs.Enlisting.{Chaining, Field, chaining-start, field-is, field-linked, fields-linked, record-inside}
 use Rattle.dense_order.proofs.order.link_kids.Statement.{statement}
 use Rattle.dense_order.proofs.order.link_kids.Tie as tie
-use Rattle.dense_order.proofs.order.link_kids.Reads as reads
-use Rattle.dense_order.proofs.order.link_kids.Lts as lts
-use Rattle.record.proofs.node_at.Reads as node-at-reads
 
 abbrev Inv-loop : tie.InvT-loop
 Inv-loop nodes work₀ n p node kids count j₀ work j = Chaining nodes work₀ work n p j
@@ -20,130 +16,107 @@ facts : (c : tie.In-loop Inv-loop μ-loop)
     → Field (c .before .before .before .before .before .before .before .args .n) (c .before .before .before .before .before .before .before .args .p) (c .before .loop .j) (getD (c .before .before .before .before .node-at .result .kids) (c .before .loop .j) 0) (length (c .before .loop .work))
 facts c = let b = c .before .before .before .before .before .before .before in field-is (b .pre .0) (b .pre .1) (c .before .before .before .before .node-at .ensures) (c .before .loop .inv) (c .loop-test .taken)
 
--- src/order.rt:102:9
 node-at-requires : tie.Need-node-at-requires Inv-loop μ-loop
 node-at-requires c κs =
     record-inside (c .before .before .pre .0 .fair) (c .before .before .pre .1)
 
--- src/order.rt:104:17
 cast-count : tie.Need-cast-count Inv-loop μ-loop
 cast-count c =
-    let b = c .before .before .before .before .before in let u = b .pre .0 .fair .fit _ (b .pre .1) in rw (c .before .before .node-at .ensures) (omega arith)
+    let b = c .before .before .before .before .before in
+    let u = b .pre .0 .fair .fit _ (b .pre .1) in
+    rw (c .before .before .node-at .ensures) (omega arith)
 
--- src/order.rt:106:5
 loop-holds : tie.Need-loop-holds Inv-loop μ-loop
 loop-holds c =
-    let b = c .before .before .before .before .before in chaining-start (b .pre .0 .fair) (b .pre .1) (b .pre .0 .room) (b .pre .0 .linked)
+    let b = c .before .before .before .before .before in
+    chaining-start (b .pre .0 .fair) (b .pre .1) (b .pre .0 .room) (b .pre .0 .linked)
 
--- src/order.rt:107:23
 mul-mention : tie.Need-mul-mention Inv-loop μ-loop
 mul-mention c =
     let x = facts c in omega (arith, x .few, x .node, x .narrow, x .child, x .room)
 
--- src/order.rt:107:23
 add-mention : tie.Need-add-mention Inv-loop μ-loop
 add-mention c =
     let x = facts c in omega (arith, x .few, x .node, x .narrow, x .child, x .room)
 
--- src/order.rt:108:20
 mul-head : tie.Need-mul-head Inv-loop μ-loop
 mul-head c =
     let x = facts c in omega (arith, x .few, x .node, x .narrow, x .child, x .room)
 
--- src/order.rt:108:32
 mul-head-2 : tie.Need-mul-head-2 Inv-loop μ-loop
 mul-head-2 c =
     let x = facts c in omega (arith, x .few, x .node, x .narrow, x .child, x .room)
 
--- src/order.rt:108:32
 array-read-head : tie.Need-array-read-head Inv-loop μ-loop
 array-read-head c =
     let x = facts c in omega (arith, x .few, x .node, x .narrow, x .child, x .room)
 
--- src/order.rt:108:32
 cast-head : tie.Need-cast-head Inv-loop μ-loop
 cast-head c =
     let x = facts c in omega (arith, x .few, x .node, x .narrow, x .child, x .room)
 
--- src/order.rt:108:20
 add-head : tie.Need-add-head Inv-loop μ-loop
 add-head c =
     let x = facts c in omega (arith, x .few, x .node, x .narrow, x .child, x .room)
 
--- src/order.rt:109:37
 mul-work : tie.Need-mul-work Inv-loop μ-loop
 mul-work c =
     let x = facts c in omega (arith, x .few, x .node, x .narrow, x .child, x .room)
 
--- src/order.rt:109:37
 slice-read-work : tie.Need-slice-read-work Inv-loop μ-loop
 slice-read-work c =
     let x = facts (c .before) in omega (arith, x .few, x .node, x .narrow, x .child, x .room)
 
--- src/order.rt:109:14
 mul-work-2 : tie.Need-mul-work-2 Inv-loop μ-loop
 mul-work-2 c =
     let x = facts (c .before) in omega (arith, x .few, x .node, x .narrow, x .child, x .room)
 
--- src/order.rt:109:14
 add-work : tie.Need-add-work Inv-loop μ-loop
 add-work c =
     let x = facts (c .before) in omega (arith, x .few, x .node, x .narrow, x .child, x .room)
 
--- src/order.rt:109:9
 mul-work-3 : tie.Need-mul-work-3 Inv-loop μ-loop
 mul-work-3 c =
     let x = facts (c .before) in omega (arith, x .few, x .node, x .narrow, x .child, x .room)
 
--- src/order.rt:109:9
 slice-write-work : tie.Need-slice-write-work Inv-loop μ-loop
 slice-write-work c =
     let x = facts (c .before) in omega (arith, x .few, x .node, x .narrow, x .child, x .room)
 
--- src/order.rt:110:23
 add-work-2 : tie.Need-add-work-2 Inv-loop μ-loop
 add-work-2 c =
     let x = facts (c .before) in omega (arith, x .few, x .node, x .narrow, x .child, x .room)
 
--- src/order.rt:110:22
 cast-work : tie.Need-cast-work Inv-loop μ-loop
 cast-work c =
     let x = facts (c .before) in omega (arith, x .few, x .node, x .narrow, x .child, x .room)
 
--- src/order.rt:110:9
 mul-work-4 : tie.Need-mul-work-4 Inv-loop μ-loop
 mul-work-4 c =
     let x = facts (c .before) in omega (arith, x .few, x .node, x .narrow, x .child, x .room)
 
--- src/order.rt:110:9
 slice-write-work-2 : tie.Need-slice-write-work-2 Inv-loop μ-loop
 slice-write-work-2 c =
-    let x = facts (c .before) in simp length-set (omega (arith, x .few, x .node, x .narrow, x .child, x .room))
+    let x = facts (c .before) in
+    simp length-set (omega (arith, x .few, x .node, x .narrow, x .child, x .room))
 
--- src/order.rt:111:9
 add-j : tie.Need-add-j Inv-loop μ-loop
 add-j c =
     let x = facts (c .before) in omega (arith, x .few, x .node, x .narrow, x .child, x .room)
 
--- src/order.rt:106:5
-loop-less : tie.Need-loop-less Inv-loop μ-loop
-loop-less c =
-    omega arith
-
--- src/order.rt:106:5
 loop-again : tie.Need-loop-again Inv-loop μ-loop
 loop-again c =
-    let b = c .before .before .before .before .before .before .before .before in field-linked (b .pre .0) (b .pre .1) (c .before .before .before .before .before .node-at .ensures) (c .before .before .loop .inv) (c .before .loop-test .taken)
+    let b = c .before .before .before .before .before .before .before .before in
+    field-linked (b .pre .0) (b .pre .1) (c .before .before .before .before .before .node-at .ensures) (c .before .before .loop .inv) (c .before .loop-test .taken)
 
--- src/order.rt:97:1
 same-length : tie.Need-same-length Inv-loop μ-loop
 same-length c =
     c .before .loop .inv .long
 
--- src/order.rt:97:1
 returns : tie.Need-returns Inv-loop μ-loop
 returns c =
-    let b = c .before .before .before .before .before .before .before in fields-linked (b .pre .0) (b .pre .1) (c .before .before .before .before .node-at .ensures) (c .before .loop .inv) (c .loop-test .left)
+    let b = c .before .before .before .before .before .before .before in
+    fields-linked (b .pre .0) (b .pre .1) (c .before .before .before .before .node-at .ensures) (c .before .loop .inv) (c .loop-test .left)
 
 pub link-kids-spec : {M : Type 1} → statement M
 link-kids-spec =
@@ -172,7 +145,7 @@ link-kids-spec =
     mul-work-4
     slice-write-work-2
     add-j
-    loop-less
+    (λ c. omega arith)
     loop-again
     same-length
     returns)
