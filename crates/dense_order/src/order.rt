@@ -18,9 +18,8 @@ const EXTERNAL: u32 = 0;
 
 const BLOCK: u32 = 1;
 
-// The sections of the work room, of n words each: the order from 0 on, then these. The tree has two, the links one a child field.
-pub(crate) const PLACES: usize = 1;
-
+// The sections of the work room, of n words each: the order from 0 on, the marks from n on, then these. The tree has two, the links one a
+// child field.
 const HEADS: usize = 2;
 
 const COUNTS: usize = 3;
