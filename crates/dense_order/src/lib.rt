@@ -1,17 +1,16 @@
-// Validate: whether node records stand in dense order.
+// Validate and Canonicalize: whether a forest's nodes stand in dense order, and putting them into it.
 ghost use mathlib.Core.Path.{_≡_};
+ghost use mathlib.Core.List.{[]};
+ghost use mathlib.Core.Option.{none};
 ghost use lib.Dec.{leb};
 ghost use Rattle.record.specs.Order.{before};
 ghost use Rattle.record.specs.Node.{nodesOf, bad, children, class, rank};
 ghost use Rattle.forest.specs.Lists.{lowest, lastOf};
 ghost use Rattle.forest.specs.Lent.{first};
-ghost use Rattle.forest.specs.Validate.{forward as forwardOf, fault as faultOf, nodeFaults, validate as validated};
+ghost use Rattle.forest.specs.Validate.{badRecord, forward as forwardOf, fault as faultOf, nodeFaults, validate as validated};
+ghost use Rattle.forest.specs.Canonicalize.{disorders, canonicalize as canonicalized};
 ghost use Rattle.room.specs.Places.{placeOf};
 ghost use Rattle.dense_order.specs.Found.{kidOf, checkOf};
-ghost use Rattle.forest.specs.Canonicalize.{disorders, canonicalize as canonicalized};
-ghost use Rattle.forest.specs.Validate.{badRecord};
-ghost use mathlib.Core.List.{[]};
-ghost use mathlib.Core.Option.{none};
 ghost use Rattle.dense_order.specs.Kinds.{Blank};
 ghost use Rattle.dense_order.specs.Steps.{sizeChecks, forestChecks, Fitting, Answers};
 use forest::Reply;
@@ -252,7 +251,13 @@ pub fn canonicalize(
     ids: &mut [u32],
     work: &mut [u32],
 ) -> Reply
-    ensures { λ r. ⌜ canonicalized (record { table = []; nodes = now (nodes .entry); roots = now (roots .entry) }) (record { nodes = now («node_out» .entry); roots = now («root_out» .entry); ids = now (ids .entry); work = now (work .entry) }) ≡ record { reply = r; room = record { nodes = now («node_out» .exit); roots = now («root_out» .exit); ids = now (ids .exit); work = now (work .exit) } } ⌝ }
+    ensures { λ r. ⌜ canonicalized
+        (record { table = []; nodes = now (nodes .entry); roots = now (roots .entry) })
+        (record { nodes = now («node_out» .entry); roots = now («root_out» .entry); ids = now (ids .entry); work = now (work .entry) })
+        ≡ record {
+          reply = r;
+          room = record { nodes = now («node_out» .exit); roots = now («root_out» .exit); ids = now (ids .exit); work = now (work .exit) };
+        } ⌝ }
 {
     let n = nodes.len() / record::SIZE;
     if let Check::Refused(reply) = sizes(
