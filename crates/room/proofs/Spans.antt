@@ -39,12 +39,6 @@ span-last w a e h k =
     span-join w a e (e + 1) h (omega arith) ∙ ap (λ (l : List ℕ). span w a e ++ l) (span-next w e (e + 1) (omega arith) k ∙ ap (λ (l : List ℕ). getD w e 0 ∷ l) (span-empty w (e + 1) (e + 1) (omega arith)))
 
 -- two parts are the same if they are place by place
-pub span-copy : (w v : List ℕ) (a b n : ℕ) → a + n ≤ length w → b + n ≤ length v → ((i : ℕ) → i < n → getD w (a + i) 0 ≡ getD v (b + i) 0) → span w a (a + n) ≡ span v b (b + n)
-span-copy w v a b n h k f =
-    let p : length (span w a (a + n)) ≡ n = omega (arith, span-length w a (a + n) h) in
-    let q : length (span v b (b + n)) ≡ n = omega (arith, span-length v b (b + n) k) in
-    ext-getD 0 (span w a (a + n)) (span v b (b + n)) (p ∙ sym q) (λ i l. span-at w a (a + n) i (omega arith) ∙ (f i (omega arith) ∙ sym (span-at v b (b + n) i (omega arith))))
-
 pub span-same : (w v : List ℕ) (a e : ℕ) → length w ≡ length v → e ≤ length v → ((p : ℕ) → a ≤ p → p < e → getD w p 0 ≡ getD v p 0) → span w a e ≡ span v a e
 span-same w v a e s h f =
     let p : length (span w a e) ≡ e - a = span-length w a e (omega arith) in
@@ -57,19 +51,3 @@ span-set w a k v h l =
     let n : length (set w k v) ≡ length w = length-set w k v in
     span-last (set w k v) a k h (omega arith)
     ∙ rw (getD-set-same w k v 0 l, span-same (set w k v) w a k n (omega arith) (λ p x y. getD-set-other w k p v 0 (λ e. omega arith)))
-
--- a part stays as it is if a store lies outside it, if all from a place before it on stays, or if all up to a place behind it does
-pub span-set-other : (w : List ℕ) (a e k v : ℕ) → e ≤ length w → (a ≤ k → e ≤ k) → span (set w k v) a e ≡ span w a e
-span-set-other w a e k v h o =
-    span-same (set w k v) w a e (length-set w k v) h (λ p x y. getD-set-other w k p v 0 (λ z. omega (arith, o (omega arith))))
-
-pub span-drop : (w v : List ℕ) (k a e : ℕ) → drop k w ≡ drop k v → k ≤ a → span w a e ≡ span v a e
-unfolding span
-span-drop w v k a e d h =
-    let z : a ≡ k + (a - k) = omega arith in
-    let s : drop a w ≡ drop a v = ap (λ (i : ℕ). drop i w) z ∙ (sym (drop-drop (a - k) k w) ∙ (ap (drop (a - k)) d ∙ (drop-drop (a - k) k v ∙ ap (λ (i : ℕ). drop i v) (sym z)))) in
-    ap (take (e - a)) s
-
-pub span-take : (w v : List ℕ) (k a e : ℕ) → take k w ≡ take k v → e ≤ k → length w ≡ length v → e ≤ length v → span w a e ≡ span v a e
-span-take w v k a e d h s l =
-    span-same w v a e s l (λ p x y. sym (getD-take k w p 0 (omega arith)) ∙ (ap (λ (m : List ℕ). getD m p 0) d ∙ getD-take k v p 0 (omega arith)))
