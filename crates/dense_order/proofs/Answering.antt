@@ -12,7 +12,7 @@ use Rattle.record.specs.Lists.{over}
 use Rattle.record.specs.Node.{size, nodesOf}
 use Rattle.record.proofs.Basics.{clash, either-false}
 use Rattle.forest.specs.Canonicalize.{rootRange, childRange, canonicalizeChecks, disorders, canonicalizeRefusals, canonical, canonicalize}
-use Rattle.forest.specs.Lent.{Room, Outcome, Result, most, leavesWork, worked, refuse, accept, when, naming, first, answered}
+use Rattle.forest.specs.Lent.{Room, Outcome, Result, workWords, most, leavesWork, worked, refuse, accept, when, naming, first, answered}
 use Rattle.forest.specs.Lists.{has}
 use Rattle.forest.specs.Order.{order, arranged}
 use Rattle.forest.specs.Validate.{badRecord}
@@ -98,7 +98,7 @@ pub record Sized (s rs a b c w : List ℕ) : Type 0 where
   pub records : length a ≡ size * (length s / size)
   pub starts : length b ≡ length rs
   pub list : length c ≡ length s / size
-  pub room : 16 * (length s / size) ≤ length w
+  pub room : workWords * (length s / size) ≤ length w
 
 module _ (s rs a b c w : List ℕ) where
   -- the checks of sizes for these buffers

@@ -17,7 +17,7 @@ use Rattle.record.specs.declared.Node.{Node}
 use Rattle.record.proofs.Basics.{clash, both-true}
 use Rattle.record.proofs.Nodes.{full-read}
 use Rattle.forest.specs.Graph.{at}
-use Rattle.forest.specs.Lent.{most}
+use Rattle.forest.specs.Lent.{workWords, most}
 use Rattle.claims.specs.Built.{earlier}
 use Rattle.claims.specs.Searches.{getD-mem}
 use Rattle.room.specs.Sections.{Out}
@@ -68,7 +68,7 @@ linked-skip g w n k (suc m) h l =
     earlier c e q f (no p) = omega arith
 
 -- mention e names c: it is linked to the one before it, and c leads to it
-module _ (g : List Node) (w : List ℕ) (n e c : ℕ) (h : c < n) (k : e < fields * n) (r : 16 * n ≤ length w) (names-c : names g c e ≡ true) (l : Linked g w n e) where
+module _ (g : List Node) (w : List ℕ) (n e c : ℕ) (h : c < n) (k : e < fields * n) (r : workWords * n ≤ length w) (names-c : names g c e ≡ true) (l : Linked g w n e) where
   abbrev pub linkedTo : List ℕ
   linkedTo = set (set w (linksAt n + e) (getD w (headsAt n + c) 0)) (headsAt n + c) (e + 1)
 
@@ -132,15 +132,15 @@ module _ {s : List ℕ} {n p : ℕ} (f : Fair s n) (h : p < n) where
         let m : (fields * p + j) % fields ≡ j = omega arith in
         rw (d, m, lt-ltb j (length (children (at (nodesOf s) p))) (let z = count-is in omega arith), field-child, eq-eqb (getD ((nodeAt s p) .kids) j 0) (getD ((nodeAt s p) .kids) j 0) refl)
 
-  pub chaining-start : {w₀ : List ℕ} → 16 * n ≤ length w₀ → Linked (nodesOf s) w₀ n (fields * p) → Chaining s w₀ w₀ n p 0
+  pub chaining-start : {w₀ : List ℕ} → workWords * n ≤ length w₀ → Linked (nodesOf s) w₀ n (fields * p) → Chaining s w₀ w₀ n p 0
   chaining-start r l = record { long = refl; upto = omega arith; linked = let z : fields * p + 0 ≡ fields * p = omega arith in rw z l; rest = λ y a b. refl }
 
-  pub chaining-step : {w₀ w : List ℕ} {j : ℕ} → 16 * n ≤ length w₀ → Chaining s w₀ w n p j → j < (nodeAt s p) .count
+  pub chaining-step : {w₀ w : List ℕ} {j : ℕ} → workWords * n ≤ length w₀ → Chaining s w₀ w n p j → j < (nodeAt s p) .count
       → Chaining s w₀ (set (set w (linksAt n + (fields * p + j)) (getD w (headsAt n + getD ((nodeAt s p) .kids) j 0) 0)) (headsAt n + getD ((nodeAt s p) .kids) j 0) (fields * p + j + 1)) n p (j + 1)
   chaining-step {w₀} {w} {j} r c k =
       let few = f .fit p h in
       let e : fields * p + j < fields * n = omega arith in
-      let q : 16 * n ≤ length w = (let z = c .long in omega arith) in
+      let q : workWords * n ≤ length w = (let z = c .long in omega arith) in
       record {
         long = simp length-set (c .long);
         upto = omega arith;
@@ -172,7 +172,7 @@ pub record Field (n p j c m : ℕ) : Type 0 where
   pub node : p < n
   pub narrow : j < fields
   pub child : c < n
-  pub room : 16 * n ≤ m
+  pub room : workWords * n ≤ m
 
 module _ {s w₀ : List ℕ} {n p : ℕ} {node : Node} (a : Enlisted s w₀ n p) (h : p < n) (e : node ≡ nodeAt s p) {w : List ℕ} {j : ℕ} (c : Chaining s w₀ w n p j) where
   pub field-is : j < node .count → Field n p j (getD (node .kids) j 0) (length w)

@@ -18,6 +18,7 @@ use Rattle.record.proofs.Basics.{clash}
 use Rattle.record.proofs.Nodes.{length-nodesOf}
 use Rattle.forest.specs.Lists.{has, lowest, sort}
 use Rattle.forest.specs.Order.{ids, externals, blocks, begun, order, unreleased}
+use Rattle.forest.specs.Lent.{workWords}
 use Rattle.claims.specs.Accepting.{unreleased-all}
 use Rattle.claims.specs.Distinct.{pigeonhole}
 use Rattle.claims.specs.Places.{lowest-passes}
@@ -74,14 +75,14 @@ externals-listed {s} {w} {w₁} {w₂} {n} {r} a l m k t = record {
 
 -- BLOCKS ------------------------------------------------------------------------------------------
 
-pub space-blocks : {s w : List ℕ} {n e : ℕ} → Fair s n → 16 * n ≤ length w → Externals s w n e → Space s w n e
+pub space-blocks : {s w : List ℕ} {n e : ℕ} → Fair s n → workWords * n ≤ length w → Externals s w n e → Space s w n e
 space-blocks f r x = record { counted = f .counted; few = f .few; fits = let z = x .some in omega arith }
 
 -- externals and blocks are no more than there are nodes
 begun-few : (g : List Node) → length (begun g) ≤ length g
 begun-few g = pigeonhole (length g) (begun-distinct g) (λ x m. (begun-in g x m) .1)
 
-pub fresh-blocks : {s w w₁ : List ℕ} {n e b : ℕ} → Fair s n → 16 * n ≤ length w → Externals s w n e → length w₁ ≡ length w → Kinds s w w₁ e 1 b → Fresh s w₁ n (e + b)
+pub fresh-blocks : {s w w₁ : List ℕ} {n e b : ℕ} → Fair s n → workWords * n ≤ length w → Externals s w n e → length w₁ ≡ length w → Kinds s w w₁ e 1 b → Fresh s w₁ n (e + b)
 unfolding begun
 fresh-blocks {s} {w} {w₁} {n} {e} {b} f r x l k = record {
   fair = f;

@@ -14,7 +14,7 @@ use Rattle.record.specs.declared.Node.{Node}
 use Rattle.record.proofs.Basics.{both-true}
 use Rattle.record.proofs.Nodes.{length-nodesOf}
 use Rattle.forest.specs.Graph.{at}
-use Rattle.forest.specs.Lent.{most}
+use Rattle.forest.specs.Lent.{workWords, most}
 use Rattle.forest.specs.Lists.{has}
 use Rattle.claims.specs.Children.{parent-below, Bare}
 use Rattle.claims.specs.Distinct.{Distinct, empty, fresh}
@@ -159,7 +159,7 @@ not-before (fresh {p = x} {l = l} f d) (suc t) h = rw (ne-eqb (getD l t 0) x (λ
 pub record Next (w : List ℕ) (n filled t : ℕ) : Type 0 where
   pub inside : t < n
   pub id-below : getD w t 0 < n
-  pub room : 16 * n ≤ length w
+  pub room : workWords * n ≤ length w
   pub few : n ≤ most
   pub unsettled : has (getD w t 0) (take t (span w 0 filled)) ≡ false
   pub taken : take (t + 1) (span w 0 filled) ≡ take t (span w 0 filled) ++ getD w t 0 ∷ []
@@ -180,7 +180,7 @@ next-is {s} {w} {n} {filled} {t} a h =
     }
 
 -- the order is untouched
-order-kept : (w₀ w : List ℕ) (n filled : ℕ) → length w ≡ length w₀ → Beside w₀ w n → filled ≤ n → 16 * n ≤ length w₀ → span w 0 filled ≡ span w₀ 0 filled
+order-kept : (w₀ w : List ℕ) (n filled : ℕ) → length w ≡ length w₀ → Beside w₀ w n → filled ≤ n → workWords * n ≤ length w₀ → span w 0 filled ≡ span w₀ 0 filled
 order-kept w₀ w n filled l b h r = span-same w w₀ 0 filled l (omega arith) (λ p x y. b p (λ z. omega arith))
 
 pub settles : {s w₀ w : List ℕ} {n filled t x : ℕ} → Standing s w₀ n filled t → t < filled → Settling s w₀ w n (span w₀ 0 filled) (take t (span w₀ 0 filled)) (getD w₀ t 0) x → x ≤ 0 → Settles s w₀ w n filled (t + 1)

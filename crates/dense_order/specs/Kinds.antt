@@ -8,7 +8,7 @@ use lib.Dec.{eqb}
 use lib.ListN.{length, getD}
 use Rattle.record.specs.Lists.{run}
 use Rattle.record.specs.Node.{size, nodeAt, nodesOf}
-use Rattle.forest.specs.Lent.{most}
+use Rattle.forest.specs.Lent.{workWords, most}
 use Rattle.forest.specs.Lists.{keep}
 use Rattle.forest.specs.Order.{externals, order, unreleased}
 use Rattle.room.specs.Places.{placeOf}
@@ -36,7 +36,7 @@ pub record Kinds (s w w′ : List ℕ) (to k r : ℕ) : Type 0 where
 pub record Blank (s w : List ℕ) (n : ℕ) : Type 0 where
   pub counted : n ≡ length s / size
   pub few : n ≤ most
-  pub room : 16 * n ≤ length w
+  pub room : workWords * n ≤ length w
   pub zeros : (y : ℕ) → getD w y 0 ≡ 0
 
 -- the first r words are the externals by digest, and all else is 0

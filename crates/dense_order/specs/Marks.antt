@@ -8,6 +8,7 @@ use lib.Dec.{eqb}
 use lib.ListN.{length, getD}
 use Rattle.record.specs.Node.{fields, size, nodeAt, children}
 use Rattle.forest.specs.Lists.{lowest}
+use Rattle.forest.specs.Lent.{most}
 use Rattle.claims.specs.Distinct.{Distinct}
 use Rattle.room.specs.Sections.{span, Out}
 
@@ -27,7 +28,7 @@ Placed w n c = (c < n) × (0 < getD w (n + c) 0)
 pub record Unmarked (w : List ℕ) (n filled : ℕ) : Type 0 where
   pub within : filled ≤ n
   pub fits : 2 * n ≤ length w
-  pub small : n ≤ 1073741823
+  pub small : n ≤ most
   pub apart : Distinct (span w 0 filled)
   pub below : (x : ℕ) → List·Memᴰ x (span w 0 filled) → x < n
   pub clear : (p : ℕ) → p < n → getD w (n + p) 0 ≡ 0

@@ -10,7 +10,7 @@ use lib.ListN.{length, take, getD}
 use Rattle.record.specs.Node.{fields, size, nodeAt, nodesOf, isInternal, children}
 use Rattle.record.specs.declared.Node.{Node}
 use Rattle.forest.specs.Graph.{at}
-use Rattle.forest.specs.Lent.{most}
+use Rattle.forest.specs.Lent.{workWords, most}
 use Rattle.forest.specs.Lists.{has}
 use Rattle.forest.specs.Order.{begun, order}
 use Rattle.claims.specs.Children.{Bare}
@@ -59,7 +59,7 @@ pub record Counts (g : List Node) (w : List ℕ) (n : ℕ) (o : List ℕ) (f : �
 -- the ids of o are in the order, and those of d are settled
 pub record Stands (s w : List ℕ) (n : ℕ) (o d : List ℕ) : Type 0 where
   pub fair : Fair s n
-  pub room : 16 * n ≤ length w
+  pub room : workWords * n ≤ length w
   pub distinct : Distinct o
   pub below : (x : ℕ) → List·Memᴰ x o → x < n
   pub closed : (p : ℕ) → List·Memᴰ p o → isInternal (at (nodesOf s) p) ≡ true → left (nodesOf s) p d ≡ 0
@@ -109,7 +109,7 @@ pub record Released (s w : List ℕ) (n filled : ℕ) : Type 0 where
 -- the mentions of the ids below p are linked and counted, and those of them that wait for nothing are ready
 pub record Enlisted (s w : List ℕ) (n p : ℕ) : Type 0 where
   pub fair : Fair s n
-  pub room : 16 * n ≤ length w
+  pub room : workWords * n ≤ length w
   pub linked : Linked (nodesOf s) w n (fields * p)
   pub waiting : (j : ℕ) → j < p → getD w (countsAt n + j) 0 ≡ length (children (at (nodesOf s) j))
   pub tree : Tree w (readyAt n) n
@@ -134,7 +134,7 @@ pub record Enlists (s w w′ : List ℕ) (n p : ℕ) : Type 0 where
 -- externals and blocks are in the order, and all else from the places on is 0
 pub record Fresh (s w : List ℕ) (n filled : ℕ) : Type 0 where
   pub fair : Fair s n
-  pub room : 16 * n ≤ length w
+  pub room : workWords * n ≤ length w
   pub some : filled ≤ n
   pub first : span w 0 filled ≡ begun (nodesOf s)
   pub zeros : (y : ℕ) → n ≤ y → y < linksAt n + fields * n → getD w y 0 ≡ 0

@@ -39,7 +39,7 @@ forestChecks s rs = badRecord s ∷ rootRange (alone (nodesOf s) rs) ∷ disorde
 pub record Fitting (s w : List ℕ) (n : ℕ) : Type 0 where
   pub counted : n ≡ length s / size
   pub few : n ≤ most
-  pub room : 16 * n ≤ length w
+  pub room : workWords * n ≤ length w
 
 -- the order and each id's place stand in the room
 pub record Arranged (s w : List ℕ) (n : ℕ) : Type 0 where

@@ -28,8 +28,10 @@ pub const MOST: usize = 1073741823;
 // The words of work room that a node wants.
 pub const WORK_WORDS: usize = 16;
 
-// The lowest and the highest class: externals, then blocks, then internal nodes.
+// The kinds of externals and blocks, and the lowest of internals; so also their classes, in order.
 const EXTERNAL: u32 = 0;
+
+const BLOCK: u32 = 1;
 
 const INTERNAL: u32 = 2;
 

@@ -5,18 +5,17 @@ ghost use Prim.Native.Nat.{_+_, _*_, _<_, _≤_};
 ghost use lib.ListN.{length, getD};
 ghost use Rattle.record.specs.Node.{nodesOf};
 ghost use Rattle.forest.specs.Order.{ready};
+ghost use Rattle.forest.specs.Lent.{workWords, most};
 ghost use Rattle.room.specs.Sections.{span};
 ghost use Rattle.ready.specs.Tree.{Tree};
 ghost use Rattle.dense_order.specs.Kinds.{Space, Kinds, Blank, Externals, Ordered};
 ghost use Rattle.dense_order.specs.State.{Fair, countsAt, readyAt, Standing, Resolved, Settles, Appends, Begun, Released, Enlisted, Links, Enlists, Fresh, Opened};
+use crate::BLOCK;
+use crate::EXTERNAL;
+use crate::INTERNAL;
 use crate::deliver;
 use record::FIELDS;
 use room::Place;
-
-// The kinds of externals and blocks.
-const EXTERNAL: u32 = 0;
-
-const BLOCK: u32 = 1;
 
 // The sections of the work room, of n words each: the order from 0 on, the marks from n on, then these. The tree has two, the links one a
 // child field.
@@ -59,7 +58,7 @@ pub(crate) fn list_externals(nodes: &[u8], work: &mut [u32], n: usize) -> usize
 
 // Counts one of p's children off; p is ready after the last.
 fn resolve(work: &mut [u32], n: usize, p: usize)
-    requires { ⌜ (p < n) × (n ≤ 1073741823) ⌝ }
+    requires { ⌜ (p < n) × (n ≤ most) ⌝ }
     requires { ⌜ 0 < getD (now work) (countsAt n + p) 0 ⌝ }
     requires { ⌜ Tree (now work) (readyAt n) n ⌝ }
     ensures { λ _. ⌜ Resolved (now (work .entry)) (now (work .exit)) n p ⌝ }
@@ -157,7 +156,7 @@ fn enlist(nodes: &[u8], work: &mut [u32], n: usize, p: usize)
     let count = link_kids(nodes, work, n, p);
     let kind = record::kind_at(nodes, p);
     work[COUNTS * n + p] = count;
-    if (kind < 2) | (0 < count) {
+    if (kind < INTERNAL) | (0 < count) {
         return;
     }
     ready::put(work, READY * n, n, p);
@@ -178,7 +177,7 @@ fn enlist_all(nodes: &[u8], work: &mut [u32], n: usize, filled: usize)
 // Lists the blocks behind the externals and settles both; says how many they are together.
 fn begin(nodes: &[u8], work: &mut [u32], n: usize, externals: usize) -> usize
     requires { ⌜ Fair (now nodes) n ⌝ }
-    requires { ⌜ 16 * n ≤ length (now work) ⌝ }
+    requires { ⌜ workWords * n ≤ length (now work) ⌝ }
     requires { ⌜ Externals (now nodes) (now work) n externals ⌝ }
     ensures { λ r. ⌜ Begun (now (nodes .entry)) (now (work .exit)) n r ⌝ }
 {
@@ -207,7 +206,7 @@ pub(crate) fn final_dense_node_order(
     externals: usize,
 ) -> Place
     requires { ⌜ Fair (now nodes) n ⌝ }
-    requires { ⌜ 16 * n ≤ length (now work) ⌝ }
+    requires { ⌜ workWords * n ≤ length (now work) ⌝ }
     requires { ⌜ Externals (now nodes) (now work) n externals ⌝ }
     ensures { λ r. ⌜ Ordered (now (nodes .entry)) (now (work .exit)) n r ⌝ }
 {

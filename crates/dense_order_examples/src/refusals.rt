@@ -4,7 +4,8 @@ use crate::case::Call;
 use crate::case::Tally;
 use crate::case::run;
 
-pub(crate) fn run_all(t: Tally) -> Tally {
+// Several faults at once, and bad records.
+fn early(t: Tally) -> Tally {
     run(
         t,
         Call::Canonicalize,
@@ -19,6 +20,16 @@ no fault left | E7 E8 I3(0) I4(2) : 0 | 0 4 1 | E7 E8 I3(0) I4(2) : 0 : 0 1 2 3
 the lowest of two bad records | B1 R2.3.0.0 R256.0.0.0 : 7 | 3 1 0
 a block with a child field | R1.0.0.1 : | 3 0 0
 a child field past the count | B1 R2.1.0.5 : 0 | 3 1 0
+",
+    )
+}
+
+// Roots, digests, children and cycles.
+fn late(t: Tally) -> Tally {
+    run(
+        t,
+        Call::Canonicalize,
+        b"
 a root without nodes | : 0 | 4 0 0
 the lowest of two bad roots | B1 B2 : 1 2 9 | 4 1 0
 the last of three roots | B1 : 0 0 1 | 4 2 0
@@ -47,4 +58,8 @@ two nodes above a cycle | B1 I2(3) I3(1) I4(4) I5(3) : | 7 1 0
 a released child beside a cycle | I1(1,2) B2 I3(0) E4 : 3 | 7 0 0
 ",
     )
+}
+
+pub(crate) fn run_all(t: Tally) -> Tally {
+    late(early(t))
 }

@@ -4,7 +4,8 @@ use crate::case::Call;
 use crate::case::Tally;
 use crate::case::run;
 
-pub(crate) fn run_all(t: Tally) -> Tally {
+// Lengths, records, and what passes.
+fn records(t: Tally) -> Tally {
     run(
         t,
         Call::Validate,
@@ -32,6 +33,16 @@ Validate, a first child field past the count | R2.0.1.0 | 3 0 0
 Validate, a second child field past the count | B1 R2.1.0.5 | 3 1 0
 Validate, the lowest of two bad records | B1 R2.3.0.0 R256.0.0.0 | 3 1 0
 Validate, a bad record behind every other fault | I3(0) E7 E7 I3(9) R2.3.0.0 | 3 4 0
+",
+    )
+}
+
+// Node by node.
+fn orders(t: Tally) -> Tally {
+    run(
+        t,
+        Call::Validate,
+        b"
 Validate, a forward child before a class | I3(0) E1 | 12 0 0
 Validate, a class before a forward child | I3() E1 I4(9) | 10 1 0
 Validate, a digest before a class | E7 E7 B1 E8 | 11 1 0
@@ -49,4 +60,8 @@ Validate, the highest child field | I3(4294967295) | 12 0 4294967295
 Validate, the first of two nodes with a forward child | B1 I3(2) I4(9) | 12 1 2
 ",
     )
+}
+
+pub(crate) fn run_all(t: Tally) -> Tally {
+    orders(records(t))
 }

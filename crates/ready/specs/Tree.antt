@@ -8,6 +8,10 @@ use lib.Dec.{eqb}
 use lib.ListN.{length, getD}
 use Rattle.room.specs.Sections.{Out}
 
+-- the largest word
+abbrev pub largest : ℕ
+largest = 4294967295
+
 -- word k of the tree that begins at place `at`
 abbrev pub word : List ℕ → ℕ → ℕ → ℕ
 word w at k = getD w (at + k) 0

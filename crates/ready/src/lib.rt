@@ -7,7 +7,7 @@ ghost use lib.Dec.{eqb};
 ghost use Rattle.record.specs.Lists.{run};
 ghost use Rattle.forest.specs.Lists.{lowest};
 ghost use Rattle.room.specs.Places.{placeOf};
-ghost use Rattle.ready.specs.Tree.{Tree, Changed, member};
+ghost use Rattle.ready.specs.Tree.{largest, Tree, Changed, member};
 use room::Place;
 
 fn larger(a: u32, b: u32) -> u32
@@ -33,7 +33,7 @@ fn set_leaf(work: &mut [u32], at: usize, n: usize, i: usize, x: u32)
 
 // Puts i into the set; leaves every other id and every word outside the tree alone.
 pub fn put(work: &mut [u32], at: usize, n: usize, i: usize)
-    requires { ⌜ (i < n) × (n ≤ 4294967295) ⌝ }
+    requires { ⌜ (i < n) × (n ≤ largest) ⌝ }
     requires { ⌜ Tree (now work) at n ⌝ }
     ensures { λ _. ⌜ Changed true (now (work .entry)) (now (work .exit)) at n i ⌝ }
 {
