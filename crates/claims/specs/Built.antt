@@ -34,11 +34,11 @@ use Rattle.claims.specs.Walks.{next-step, positions, finish-positions}
 
 -- PLACES IN A LIST WITH ONE MORE --------------------------------------------------------------
 
-at-last : (ms : List Node) (n : Node) → at (ms ++ n ∷ []) (length ms) ≡ n
+pub at-last : (ms : List Node) (n : Node) → at (ms ++ n ∷ []) (length ms) ≡ n
 unfolding at
 at-last ms n = getD-append-seam ms n [] noNode
 
-at-before : (ms : List Node) (n : Node) (p : ℕ) → p < length ms → at (ms ++ n ∷ []) p ≡ at ms p
+pub at-before : (ms : List Node) (n : Node) (p : ℕ) → p < length ms → at (ms ++ n ∷ []) p ≡ at ms p
 unfolding at
 at-before ms n p h = List·getD-append ms (n ∷ []) noNode p h
 

@@ -3,6 +3,7 @@ pub mod Searches
 pub mod Distinct
 pub mod Sorts
 pub mod Checks
+pub mod Leaves
 pub mod Paths
 pub mod Children
 pub mod Walks
@@ -21,6 +22,7 @@ pub mod Externals
 pub mod Accepting
 pub mod Passing
 pub mod Again
+pub mod First
 pub mod Results
 pub mod Places
 pub mod Built

@@ -175,7 +175,7 @@ module _ (g : List Node) where
         go c k u true t ih = (c, way-steps (onto w k) (has-in c (x ∷ l) t))
         go c k u false t ih = ih (fresh (not-in c (x ∷ l) t) d) (λ y m. below c k y (List·Memᴰ·cases-cons m)) (omega arith)
 
-  in-begun : (x : ℕ) → x < length g → (isExternal (at g x) ≡ true) ⊎ (isBlock (at g x) ≡ true) → List·Memᴰ x (begun g)
+  pub in-begun : (x : ℕ) → x < length g → (isExternal (at g x) ≡ true) ⊎ (isBlock (at g x) ≡ true) → List·Memᴰ x (begun g)
   unfolding begun
   in-begun x h (inl e) = Memᴰ·append-left (blocks g) (in-externals x h e)
   in-begun x h (inr e) = Memᴰ·append-right (externals g) (in-blocks x h e)

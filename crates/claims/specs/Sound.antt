@@ -18,10 +18,10 @@ use Rattle.record.proofs.Nodes.{child-from}
 use Rattle.forest.specs.Graph.{at, replacedBy, listed, next}
 use Rattle.forest.specs.Lists.{lowest}
 use Rattle.forest.specs.Order.{ids}
-use Rattle.forest.specs.Walk.{State, start, going, idIn, orNone, idOf, ended, push, finish, walk}
+use Rattle.forest.specs.Walk.{State, start, going, idIn, orNone, idOf, ended, push, finish, visit, walk}
 use Rattle.claims.specs.Distinct.{Distinct, empty, fresh}
 use Rattle.claims.specs.Searches.{lowest-none, lowest-lt}
-use Rattle.claims.specs.WalkInduction.{walk-ind}
+use Rattle.claims.specs.WalkInduction.{visit-ind, walk-ind}
 use Rattle.claims.specs.Walks.{positions, idIn-in, finish-positions}
 
 -- merged nodes: each has its children among those before it, and none of those is like it
@@ -45,13 +45,14 @@ pub record Sound (g : List Node) (s : State) : Type 0 where
 abbrev pub Finished : State → ℕ → Type 0
 Finished s x = List·Memᴰ x (positions (s .done))
 
-record After (g : List Node) (path ps : List ℕ) (s t : State) : Type 0 where
-  sound : Sound g t
-  unfinished : (x : ℕ) → List·Memᴰ x path → ¬ Finished t x
-  kept : (x : ℕ) → Finished s x → Finished t x
-  done-all : (x : ℕ) → List·Memᴰ x ps → Finished t x
+-- from s the walk has come to t, with the nodes of `path` open and those of ps finished
+pub record After (g : List Node) (path ps : List ℕ) (s t : State) : Type 0 where
+  pub sound : Sound g t
+  pub unfinished : (x : ℕ) → List·Memᴰ x path → ¬ Finished t x
+  pub kept : (x : ℕ) → Finished s x → Finished t x
+  pub done-all : (x : ℕ) → List·Memᴰ x ps → Finished t x
 
-abbrev Each : List Node → List ℕ → List ℕ → State → State → Type 0
+abbrev pub Each : List Node → List ℕ → List ℕ → State → State → Type 0
 Each g path ps s t = Sound g s → ((x : ℕ) → List·Memᴰ x path → ¬ Finished s x) → After g path ps s t
 
 -- a finished position has an id
@@ -69,7 +70,7 @@ in-idIn (e ∷ es) p m = go (eqb p (e .0)) refl (in-idIn es p) (List·Memᴰ·ca
     go false t ih (inr k) = further t (ih k)
 
 -- the ids after one more is given
-idIn-ended : (d : List (ℕ × ℕ)) (p i x j : ℕ) → idIn ((p, i) ∷ d) x ≡ some j → (j ≡ i) ⊎ (idIn d x ≡ some j)
+pub idIn-ended : (d : List (ℕ × ℕ)) (p i x j : ℕ) → idIn ((p, i) ∷ d) x ≡ some j → (j ≡ i) ⊎ (idIn d x ≡ some j)
 unfolding idIn
 idIn-ended d p i x j e = go (eqb x p) refl
   where
@@ -125,7 +126,7 @@ sound-push g p n s h f k o = go (lowest (sameNode n) (s .merged)) refl
     go (some i) e = rw (e, push) (sound-ended g p i s h f (lowest-lt (sameNode n) (s .merged) i e))
 
 module _ (g : List Node) where
-  sound-finish : (p : ℕ) (s : State) → Sound g s → ¬ Finished s p → ((x : ℕ) → List·Memᴰ x (next g p) → Finished s x) → Sound g (finish g p s)
+  pub sound-finish : (p : ℕ) (s : State) → Sound g s → ¬ Finished s p → ((x : ℕ) → List·Memᴰ x (next g p) → Finished s x) → Sound g (finish g p s)
   unfolding finish next listed
   sound-finish p s h f k = go (replacedBy g p) refl
     where
@@ -163,15 +164,29 @@ module _ (g : List Node) where
       still x m (inl e) = n (rw e at m)
       still x m (inr k) = a .unfinished x (List·Memᴰ·tail m) k
 
-  -- what the walk comes to is sound
-  pub walk-sound : (limit : ℕ) (roots : List ℕ) (t : State) → walk g limit roots ≡ going t → Sound g t
+  passed : (path : List ℕ) (p : ℕ) (s : State) (i : ℕ) → idIn (s .done) p ≡ some i → Each g path (p ∷ []) s s
+  passed path p s i q h f = record { sound = h; unfinished = f; kept = λ x m. m; done-all = λ x m. rw (List·Memᴰ·eq-of-singleton m) (idIn-in (s .done) p i q) }
+
+  stayed : (path : List ℕ) (s : State) → Each g path [] s s
+  stayed path s h f = record { sound = h; unfinished = f; kept = λ x m. m; done-all = λ x m. absurd (List·Memᴰ·not-nil m) }
+
+  joined-each : (path : List ℕ) (p : ℕ) (ps : List ℕ) (s t u : State) → Each g path (p ∷ []) s t → Each g path ps t u → Each g path (p ∷ ps) s u
+  joined-each path p ps s t u a b h f = followed s t u path p ps (a h f) (b ((a h f) .sound) ((a h f) .unfinished))
+
+  opened-each : (path : List ℕ) (p : ℕ) (s t : State) → ¬ List·Memᴰ p path → idIn (s .done) p ≡ none → Each g (p ∷ path) (next g p) s t → Each g path (p ∷ []) s (finish g p t)
+  opened-each path p s t n q a h f = opened-after path p s t n (a h (not-yet path p s q f))
+
+  -- what a visit comes to is sound, and what was finished or is visited is finished
+  pub visit-after : (d : ℕ) (path : List ℕ) (p : ℕ) (s t : State) → visit g d path p s ≡ going t → Each g path (p ∷ []) s t
+  visit-after = visit-ind g (λ path p s u. Each g path (p ∷ []) s u) (Each g) passed stayed joined-each opened-each
+
+  pub sound-start : Sound g start
   unfolding start idIn
-  walk-sound limit roots t e =
-      (walk-ind g (λ path p s u. Each g path (p ∷ []) s u) (Each g)
-      (λ path p s i q h f. record { sound = h; unfinished = f; kept = λ x m. m; done-all = λ x m. rw (List·Memᴰ·eq-of-singleton m) (idIn-in (s .done) p i q) })
-      (λ path s h f. record { sound = h; unfinished = f; kept = λ x m. m; done-all = λ x m. absurd (List·Memᴰ·not-nil m) })
-      (λ path p ps s u v a b h f. followed s u v path p ps (a h f) (b ((a h f) .sound) ((a h f) .unfinished)))
-      (λ path p s u n q a h f. opened-after path p s u n (a h (not-yet path p s q f)))
-      limit roots t e
-      (record { merged-built = built-nil; named = λ p i q. absurd (clash (cc)); single = empty; few = omega arith; origin = λ x m. absurd (List·Memᴰ·not-nil m) })
-      (λ x m. absurd (List·Memᴰ·not-nil m))) .sound
+  sound-start = record { merged-built = built-nil; named = λ p i q. absurd (clash (cc)); single = empty; few = omega arith; origin = λ x m. absurd (List·Memᴰ·not-nil m) }
+
+  -- what the walk comes to is sound, and its roots are finished
+  pub walk-after : (limit : ℕ) (roots : List ℕ) (t : State) → walk g limit roots ≡ going t → After g [] roots start t
+  walk-after limit roots t e = walk-ind g (λ path p s u. Each g path (p ∷ []) s u) (Each g) passed stayed joined-each opened-each limit roots t e sound-start (λ x m. absurd (List·Memᴰ·not-nil m))
+
+  pub walk-sound : (limit : ℕ) (roots : List ℕ) (t : State) → walk g limit roots ≡ going t → Sound g t
+  walk-sound limit roots t e = (walk-after limit roots t e) .sound

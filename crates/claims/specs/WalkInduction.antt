@@ -20,7 +20,7 @@ unseen-none (some i) b e = cc
 unseen-none none b e = refl
 
 -- a walk that goes on did both of its parts
-onward-going : (w : Walked) (f : State → Walked) (u : State) → onward w f ≡ going u → (t : State) × (w ≡ going t) × (f t ≡ going u)
+pub onward-going : (w : Walked) (f : State → Walked) (u : State) → onward w f ≡ going u → (t : State) × (w ≡ going t) × (f t ≡ going u)
 unfolding onward
 onward-going (going t) f u e = (t, refl, e)
 onward-going (cycle p) f u e = absurd (clash (cc))
@@ -39,7 +39,7 @@ module _ (g : List Node) (P : List ℕ → ℕ → State → State → Type 0) (
       go : (t : State) × (f p s ≡ going t) × (each f ps t ≡ going u) → ((t v : State) → each f ps t ≡ going v → Ps path ps t v) → Ps path (p ∷ ps) s u
       go (t, a, b) ih = cons path p ps s t u (h p s t a) (ih t u b)
 
-  visit-ind : (d : ℕ) (path : List ℕ) (p : ℕ) (s t : State) → visit g d path p s ≡ going t → P path p s t
+  pub visit-ind : (d : ℕ) (path : List ℕ) (p : ℕ) (s t : State) → visit g d path p s ≡ going t → P path p s t
   unfolding visit mark enter
   visit-ind zero path p s t e = go (mark path s p) refl e
     where

@@ -2,23 +2,24 @@
 -- Assumes nothing.
 use Prim.Native.Nat.{ℕ, _+_, _*_, _/_, _%_, _≤_}
 use mathlib.Core.Path.{_≡_, refl, sym, _∙_, ap}
-use mathlib.Core.Bool.{Bool, true, false}
-use mathlib.Core.List.{List, [], _∷_, _++_, append-nil}
-use mathlib.Core.Option.{Option, some, none}
+use mathlib.Core.Bool.{true, false}
+use mathlib.Core.List.{List, [], _++_, append-nil}
+use mathlib.Core.Option.{Option, none}
 use native.Mathlib.Omega.{arith}
 use borrow.Author.Tests.{ltb-false, eqb-true, not-false}
 use lib.ListN.{length, replicate, length-map, drop-of-length-le}
 use Rattle.record.specs.Lists.{over}
 use Rattle.record.specs.Node.{size, nodesOf}
-use Rattle.record.proofs.Basics.{clash, either-false}
+use Rattle.record.proofs.Basics.{either-false}
 use Rattle.forest.specs.Canonicalize.{rootRange, childRange, canonicalizeChecks, disorders, canonicalizeRefusals, canonical, canonicalize}
-use Rattle.forest.specs.Lent.{Room, Outcome, Result, workWords, most, leavesWork, worked, refuse, accept, when, naming, first, answered}
+use Rattle.forest.specs.Lent.{Outcome, workWords, most, leavesWork, worked, refuse, accept, first, answered}
 use Rattle.forest.specs.Lists.{has}
 use Rattle.forest.specs.Order.{order, arranged}
 use Rattle.forest.specs.Validate.{badRecord}
 use Rattle.forest.specs.declared.Reply.{Reply}
 use Rattle.forest.specs.declared.Reply.the-variants.{Accepted, BadBuffers, TooMany, BadRecord, RootRange, DuplicateExternal, ChildRange, Cycle}
 use Rattle.claims.specs.Checks.{first-none, when-none}
+use Rattle.claims.specs.Leaves.{Leaving, leaving-nil, leaving-when, leaving-naming, accepted-clears, first-stops, refused-is, accepted-is}
 use Rattle.claims.specs.Settled.{answered-past}
 use Rattle.room.proofs.Spans.{span-length}
 use Rattle.dense_order.specs.Found.{checkOf}
@@ -28,24 +29,6 @@ use Rattle.dense_order.specs.declared.Check.the-variants.{Passed, Refuse
 use Rattle.dense_order.proofs.Options.{refused-some, passed-none}
 
 -- WHAT A REFUSAL DOES TO THE WORK ROOM ------------------------------------------------------------
-
--- every refusal of the list leaves the work room as it is, or none does
-abbrev Leaving : Bool → List (Option Reply) → Type 0
-Leaving b os = (r : Reply) → first os ≡ some r → leavesWork r ≡ b
-
-leaving-nil : (b : Bool) → Leaving b []
-unfolding first
-leaving-nil b r e = absurd (clash cc)
-
-leaving-when : (b c : Bool) (x : Reply) (os : List (Option Reply)) → leavesWork x ≡ b → Leaving b os → Leaving b (when c x ∷ os)
-unfolding first when
-leaving-when b true x os h l r e = let q : x ≡ r = cc in ap leavesWork (sym q) ∙ h
-leaving-when b false x os h l r e = l r e
-
-leaving-naming : {A : Type 0} (b : Bool) (f : A → Reply) (o : Option A) (os : List (Option Reply)) → ((a : A) → leavesWork (f a) ≡ b) → Leaving b os → Leaving b (naming f o ∷ os)
-unfolding first naming
-leaving-naming b f none os h l r e = l r e
-leaving-naming b f (some a) os h l r e = let q : f a ≡ r = cc in ap leavesWork (sym q) ∙ h a
 
 sizes-leave : (s rs a b c w : ℕ) → Leaving true (sizeChecks s rs a b c w)
 unfolding sizeChecks leavesWork has
@@ -65,24 +48,6 @@ forest-clears s rs =
     (leaving-naming false DuplicateExternal _ _ (λ p. refl)
     (leaving-naming false (λ e. ChildRange (e .0) (e .1)) _ _ (λ p. refl)
     (leaving-naming false Cycle _ _ (λ p. refl) (leaving-nil false)))))
-
-accepted-clears : (n k : ℕ) (w : List ℕ) → worked (Accepted n k) w ≡ replicate (length w) 0
-unfolding worked leavesWork has
-accepted-clears n k w = refl
-
-first-stops : (os ps : List (Option Reply)) (r : Reply) → first os ≡ some r → first (os ++ ps) ≡ some r
-unfolding first
-first-stops [] ps r e = absurd (clash cc)
-first-stops (none ∷ os) ps r e = first-stops os ps r e
-first-stops (some x ∷ os) ps r e = e
-
-refused-is : (m : Room) (os : List (Option Reply)) (t : Result) (r : Reply) → first os ≡ some r → answered m os t ≡ refuse m r
-unfolding answered
-refused-is m os t r e = rw (e, answered)
-
-accepted-is : (m : Room) (os : List (Option Reply)) (t : Result) → first os ≡ none → answered m os t ≡ accept m t
-unfolding answered
-accepted-is m os t e = rw (e, answered)
 
 -- THE OUTCOME -------------------------------------------------------------------------------------
 

@@ -37,12 +37,12 @@ use Rattle.dense_order.proofs.RootRange.{far-root-is}
 
 -- MAPS THAT AGREE ---------------------------------------------------------------------------------
 
-map-agree : {B : Type 0} (f h : ℕ → B) (l : List ℕ) → ((x : ℕ) → List·Memᴰ x l → f x ≡ h x) → map f l ≡ map h l
+pub map-agree : {B : Type 0} (f h : ℕ → B) (l : List ℕ) → ((x : ℕ) → List·Memᴰ x l → f x ≡ h x) → map f l ≡ map h l
 map-agree f h [] e = refl
 map-agree f h (x ∷ l) e = rw (e x (List·Memᴰ·head refl), map-agree f h l (λ y m. e y (List·Memᴰ·tail m)))
 
 -- only the new ids of children count
-renumber-agree : (f h : ℕ → ℕ) (m : Node) → ((c : ℕ) → List·Memᴰ c (children m) → f c ≡ h c) → renumber f m ≡ renumber h m
+pub renumber-agree : (f h : ℕ → ℕ) (m : Node) → ((c : ℕ) → List·Memᴰ c (children m) → f c ≡ h c) → renumber f m ≡ renumber h m
 unfolding renumber
 renumber-agree f h m e = rw (map-agree f h (children m) e)
 

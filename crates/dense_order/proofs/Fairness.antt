@@ -34,7 +34,7 @@ narrow-at s p = go (getD-in (nodesOf s) p noNode)
     go (inr e) = rw e (omega arith)
 
 -- a record that is not bad has no higher count
-count-fits : (s : List ℕ) → badRecord s ≡ none → (p : ℕ) → p < length s / size → (nodeAt s p) .count ≤ fields
+pub count-fits : (s : List ℕ) → badRecord s ≡ none → (p : ℕ) → p < length s / size → (nodeAt s p) .count ≤ fields
 unfolding badRecord at
 count-fits s e p h =
     let m : List·Memᴰ (getD (nodesOf s) p noNode) (nodesOf s) = getD-mem (nodesOf s) p noNode (omega (arith, length-nodesOf s)) in

@@ -21,59 +21,22 @@ use Rattle.claims.specs.Sorts.{run-in}
 use Rattle.room.specs.Sections.{span, Out}
 use Rattle.room.proofs.Spans.{span-length, span-empty, span-set}
 use Rattle.sorting.specs.Digests.{less}
+use Rattle.sorting.proofs.Keeping.{Keeping, keeping-count, keeping-end}
 use Rattle.sorting.proofs.Uses.{at-node, externals-is}
 use Rattle.dense_order.specs.Kinds.{ofKind, Space, Kinds}
 
--- the ids below p of this kind are listed
-pub record Gathering (s w₀ w : List ℕ) (n to k count p : ℕ) : Type 0 where
-  pub within : p ≤ n
-  pub some : count ≤ p
-  pub long : length w ≡ length w₀
-  pub rest : (y : ℕ) → Out y to count → getD w y 0 ≡ getD w₀ y 0
-  pub so-far : ofKind s k ≡ span w to (to + count) ++ keep (λ p. eqb ((nodeAt s p) .kind) k) (run p (n - p))
-
-run-step : (p n : ℕ) → p < n → run p (n - p) ≡ p ∷ run (p + 1) (n - (p + 1))
-unfolding run
-run-step p n h = let e : n - p ≡ suc (n - (p + 1)) = omega arith in rw (e, add-one)
-
-pub gathering-start : {s w : List ℕ} {n to : ℕ} (k : ℕ) → Space s w n to → Gathering s w w n to k 0 0
+-- all ids are looked at
+pub gathered : {s w₀ w : List ℕ} {n to count p : ℕ} (k : ℕ) → Space s w₀ n to → Keeping (λ q. eqb ((nodeAt s q) .kind) k) w₀ w n to count p → n ≤ p → Kinds s w₀ w to k count
 unfolding ofKind
-gathering-start {s} {w} {n} {to} k a =
-    let e : to + 0 ≡ to = omega arith in
-    let z : n - 0 ≡ length s / size = omega (arith, a .counted) in
-    record { within = omega arith; some = omega arith; long = refl; rest = λ y h. refl; so-far = rw (e, span-empty w to to (omega arith), z) }
-
-module _ {s w₀ w : List ℕ} {n to k count p : ℕ} (a : Space s w₀ n to) (m : Gathering s w₀ w n to k count p) (h : p < n) where
-  pub gathering-past : (nodeAt s p) .kind ≢ k → Gathering s w₀ w n to k count (p + 1)
-  unfolding keep
-  gathering-past d = record { within = omega arith; some = let z = m .some in omega arith; long = m .long; rest = m .rest; so-far = m .so-far ∙ rw (run-step p n h) (rw (ne-eqb _ _ d, keep)) }
-
-  pub gathering-on : (nodeAt s p) .kind ≡ k → Gathering s w₀ (set w (to + count) p) n to k (count + 1) (p + 1)
-  unfolding keep
-  gathering-on e =
-      let z : to + (count + 1) ≡ to + count + 1 = omega arith in
-      record {
-        within = omega arith;
-        some = let y = m .some in omega arith;
-        long = length-set w (to + count) p ∙ m .long;
-        rest = λ y g. getD-set-other w (to + count) y p 0 (λ q. omega (arith, g (omega arith))) ∙ m .rest y (λ q. omega (arith, g q));
-        so-far =
-            m .so-far
-            ∙ rw (run-step p n h, z, span-set w to (to + count) p (omega arith) (omega (arith, m .long, m .some, a .fits)), append-assoc)
-            (rw (eq-eqb _ _ e, keep));
-      }
-
-pub gathering-end : {s w₀ w : List ℕ} {n to k count p : ℕ} → Space s w₀ n to → Gathering s w₀ w n to k count p → n ≤ p → Kinds s w₀ w to k count
-unfolding keep run
-gathering-end {s} {w₀} {w} {n} {to} {k} {count} {p} a m h =
-    let z : n - p ≡ 0 = omega arith in
-    let e : ofKind s k ≡ span w to (to + count) = m .so-far ∙ rw z (append-nil (span w to (to + count))) in
-    let l : length (span w to (to + count)) ≡ count = omega (arith, span-length w to (to + count) (omega (arith, a .fits, m .some, m .within, m .long))) in
-    record { count = sym (ap length e ∙ l); few = omega (arith, m .some, m .within, a .counted); puts = record { put = sym e; rest = m .rest } }
+gathered k a m h = record {
+  count = rw (← a .counted) (keeping-count m (a .fits) h);
+  few = omega (arith, m .some, m .within, a .counted);
+  puts = rw (← a .counted) (keeping-end m (a .fits) h);
+}
 
 -- EXTERNALS, THEN BLOCKS --------------------------------------------------------------------------
 
-keep-same : {A : Type 0} (t u : A → Bool) (l : List A) → ((x : A) → List·Memᴰ x l → t x ≡ u x) → keep t l ≡ keep u l
+pub keep-same : {A : Type 0} (t u : A → Bool) (l : List A) → ((x : A) → List·Memᴰ x l → t x ≡ u x) → keep t l ≡ keep u l
 unfolding keep
 keep-same t u [] h = refl
 keep-same t u (x ∷ l) h = go (u x) refl (keep-same t u l (λ y m. h y (List·Memᴰ·tail m)))
@@ -82,7 +45,7 @@ keep-same t u (x ∷ l) h = go (u x) refl (keep-same t u l (λ y m. h y (List·M
     go true e ih = rw (h x (List·Memᴰ·head refl), e, keep, ih)
     go false e ih = rw (h x (List·Memᴰ·head refl), e, keep, ih)
 
-external-kind : (n : Node) → isExternal n ≡ eqb (n .kind) 0
+pub external-kind : (n : Node) → isExternal n ≡ eqb (n .kind) 0
 unfolding isExternal class classOf rank
 external-kind n = go (n .kind)
   where

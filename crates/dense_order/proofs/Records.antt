@@ -30,10 +30,10 @@ over-behind a new l at e = rw (take-at a (drop at l) at e, ← e, drop-append-ad
 -- the first k records of out are those of g of the first k of ps, what follows them is as in out₀
 pub record Wrote (g : ℕ → Node) (ps out₀ out : List ℕ) (k : ℕ) : Type 0 where
   pub within : k ≤ length ps
-  pub room : length out₀ ≡ size * length ps
+  pub room : size * length ps ≤ length out₀
   pub held : out ≡ flat nodeBytes (map g (take k ps)) ++ drop (size * k) out₀
 
-wrote-start : (g : ℕ → Node) (ps out : List ℕ) → length out ≡ size * length ps → Wrote g ps out out 0
+pub wrote-start : (g : ℕ → Node) (ps out : List ℕ) → size * length ps ≤ length out → Wrote g ps out out 0
 unfolding flat
 wrote-start g ps out h = record { within = omega arith; room = h; held = refl }
 
@@ -46,10 +46,10 @@ module _ {g : ℕ → Node} {ps out₀ out : List ℕ} {k : ℕ} (full : (p : �
   front-long : length (flat nodeBytes (map g (take k ps))) ≡ size * k
   front-long = rw (records-long g full (take k ps), length-take-le k ps (r .within)) refl
 
-  wrote-long : length out ≡ length out₀
+  pub wrote-long : length out ≡ length out₀
   wrote-long = rw (r .held) (simp (length-append, front-long, length-drop) (let a = r .room in let b = r .within in omega arith))
 
-  wrote-step : {out₁ : List ℕ} → k < length ps → out₁ ≡ over out (size * k) (nodeBytes (g (getD ps k 0))) → Wrote g ps out₀ out₁ (k + 1)
+  pub wrote-step : {out₁ : List ℕ} → k < length ps → out₁ ≡ over out (size * k) (nodeBytes (g (getD ps k 0))) → Wrote g ps out₀ out₁ (k + 1)
   unfolding flat
   wrote-step h e =
       let new : List ℕ = nodeBytes (g (getD ps k 0)) in
@@ -61,8 +61,16 @@ module _ {g : ℕ → Node} {ps out₀ out : List ℕ} {k : ℕ} (full : (p : �
         held = rw (e, r .held, over-behind (flat nodeBytes (map g (take k ps))) new out₀ (size * k) front-long, t, l);
       }
 
-  wrote-end : length ps ≤ k → out ≡ flat nodeBytes (map g ps)
-  wrote-end h = let a = r .room in let l : length out₀ ≤ size * k = omega arith in rw (r .held, take-all k ps h, drop-of-length-le out₀ l, append-nil)
+  pub wrote-over : length ps ≤ k → out ≡ over out₀ 0 (flat nodeBytes (map g ps))
+  unfolding over
+  wrote-over h =
+      let a = r .within in
+      let e : k ≡ length ps = omega arith in
+      let l : 0 + length (flat nodeBytes (map g ps)) ≡ size * k = omega (arith, records-long g full ps) in
+      rw (r .held, take-all k ps h, l)
+
+  wrote-end : length ps ≤ k → length out₀ ≡ size * length ps → out ≡ flat nodeBytes (map g ps)
+  wrote-end h a = let l : length out₀ ≤ size * k = omega arith in rw (r .held, take-all k ps h, drop-of-length-le out₀ l, append-nil)
 
 -- THE NODES IN THEIR ORDER ------------------------------------------------------------------------
 
@@ -78,7 +86,7 @@ module _ {s w out₀ : List ℕ} {n : ℕ} (b : Writable s w out₀ n) where
   order-long = let f = b .fits in omega (arith, span-length w 0 n (omega arith))
 
   pub moving-start : Wrote (moved s w n) (span w 0 n) out₀ out₀ 0
-  moving-start = wrote-start (moved s w n) (span w 0 n) out₀ (rw order-long (b .room))
+  moving-start = wrote-start (moved s w n) (span w 0 n) out₀ (let a = b .room in let l = order-long in omega arith)
 
   -- the word that is looked at is an id, and its node can be renumbered
   module _ {k : ℕ} (h : k < n) where
@@ -101,4 +109,4 @@ module _ {s w out₀ : List ℕ} {n : ℕ} (b : Writable s w out₀ n) where
         wrote-step (moved-full s w n) r (omega arith) (rw (q, f, e, a))
 
     pub moving-end : n ≤ k → out ≡ flat nodeBytes (map (moved s w n) (span w 0 n))
-    moving-end h = let l = order-long in wrote-end (moved-full s w n) r (omega arith)
+    moving-end h = let l = order-long in wrote-end (moved-full s w n) r (omega arith) (rw order-long (b .room))

@@ -42,13 +42,13 @@ pub enum Kid {
 }
 
 // A node and a child of it past the end.
-enum Far {
+pub enum Far {
     At(usize, u32),
     Nowhere,
 }
 
 // What a check says.
-enum Check {
+pub enum Check {
     Passed,
     Refused(Reply),
 }

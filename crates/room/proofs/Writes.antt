@@ -43,11 +43,11 @@ pub record Putting (l w₀ w : List ℕ) (to n i : ℕ) : Type 0 where
   pub put : span w to (to + i) ≡ take i l
   pub rest : (p : ℕ) → Out p to i → getD w p 0 ≡ getD w₀ p 0
 
-putting-start : {l w : List ℕ} {to n : ℕ} → length l ≡ n → to + n ≤ length w → Putting l w w to n 0
+pub putting-start : {l w : List ℕ} {to n : ℕ} → length l ≡ n → to + n ≤ length w → Putting l w w to n 0
 putting-start {l} {w} {to} e h = record { whole = e; fits = h; within = omega arith; long = refl; put = span-empty w to (to + 0) (omega arith); rest = λ p o. refl }
 
 module _ {l w₀ w : List ℕ} {to n i : ℕ} (r : Putting l w₀ w to n i) where
-  putting-step : (v : ℕ) → i < n → v ≡ getD l i 0 → Putting l w₀ (set w (to + i) v) to n (i + 1)
+  pub putting-step : (v : ℕ) → i < n → v ≡ getD l i 0 → Putting l w₀ (set w (to + i) v) to n (i + 1)
   putting-step v h e =
       let k = r .whole in
       let z : to + (i + 1) ≡ to + i + 1 = omega arith in

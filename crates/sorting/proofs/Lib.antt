@@ -8,3 +8,4 @@ pub mod Sorts
 pub mod Finds
 pub mod Callers
 pub mod Uses
+pub mod Keeping

@@ -20,12 +20,12 @@ use Rattle.sorting.proofs.SortLaws.{all-keep}
 use Rattle.sorting.proofs.LastLaws.{last-keep, highest-last}
 use Rattle.sorting.proofs.Agree.{sort-agree, last-agree, keep-agree}
 
-getD-map : {A B : Type 0} (f : A → B) (l : List A) (i : ℕ) (d : A) (e : B) → i < length l → getD (map f l) i e ≡ f (getD l i d)
+pub getD-map : {A B : Type 0} (f : A → B) (l : List A) (i : ℕ) (d : A) (e : B) → i < length l → getD (map f l) i e ≡ f (getD l i d)
 getD-map f [] i d e h = absurd (omega arith)
 getD-map f (x ∷ l) zero d e h = refl
 getD-map f (x ∷ l) (suc i) d e h = getD-map f l i d e (omega arith)
 
-run-at : (a n i : ℕ) → i < n → getD (run a n) i 0 ≡ a + i
+pub run-at : (a n i : ℕ) → i < n → getD (run a n) i 0 ≡ a + i
 unfolding run
 run-at a zero i h = absurd (omega arith)
 run-at a (suc n) zero h = omega arith

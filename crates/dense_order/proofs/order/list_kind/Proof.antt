@@ -1,19 +1,23 @@
 use Prim.Native.Nat.{_-_}
 use mathlib.Core.Path.{sym, _∙_}
 use native.Mathlib.Omega.{arith}
-use Rattle.dense_order.proofs.Gathering.{Gathering, gathering-start, gathering-past, gathering-on, gathering-end}
+use lib.Dec.{eqb}
+use borrow.Author.Tests.{eq-eqb, ne-eqb}
+use Rattle.record.specs.Node.{nodeAt}
+use Rattle.sorting.proofs.Keeping.{Keeping, keeping-start, keeping-past, keeping-on}
+use Rattle.dense_order.proofs.Gathering.{gathered}
 use Rattle.dense_order.proofs.order.list_kind.Statement.{statement}
 use Rattle.dense_order.proofs.order.list_kind.Tie as tie
 
 abbrev Inv-loop : tie.InvT-loop
-Inv-loop nodes work₀ n to kind count₀ p₀ work count p = Gathering nodes work₀ work n to kind count p
+Inv-loop nodes work₀ n to kind count₀ p₀ work count p = Keeping (λ q. eqb ((nodeAt nodes q) .kind) kind) work₀ work n to count p
 
 abbrev μ-loop : tie.MeasureT-loop
 μ-loop nodes work₀ n to kind count₀ p₀ work count p = n - p
 
 loop-holds : tie.Need-loop-holds Inv-loop μ-loop
 loop-holds c =
-    gathering-start _ (c .before .before .pre)
+    keeping-start _ _ _ _
 
 kind-at-requires : tie.Need-kind-at-requires Inv-loop μ-loop
 kind-at-requires c κs =
@@ -27,7 +31,7 @@ add-p c =
 
 loop-again : tie.Need-loop-again Inv-loop μ-loop
 loop-again c =
-    gathering-past (c .before .before .before .before .before .before .pre) (c .before .before .before .loop .inv) (c .before .before .loop-test .taken) (λ e. c .if1 .taken (c .before .kind-at .ensures ∙ e))
+    keeping-past (c .before .before .before .loop .inv) (c .before .before .loop-test .taken) (ne-eqb _ _ (λ e. c .if1 .taken (c .before .kind-at .ensures ∙ e)))
 
 cast-work : tie.Need-cast-work Inv-loop μ-loop
 cast-work c =
@@ -67,7 +71,7 @@ add-p-2 c =
 
 loop-again-2 : tie.Need-loop-again-2 Inv-loop μ-loop
 loop-again-2 c =
-    gathering-on (c .before .before .before .before .before .before .pre) (c .before .before .before .loop .inv) (c .before .before .loop-test .taken) (sym (c .before .kind-at .ensures) ∙ c .if1 .left)
+    keeping-on (c .before .before .before .loop .inv) (c .before .before .before .before .before .before .pre .fits) (c .before .before .loop-test .taken) (eq-eqb _ _ (sym (c .before .kind-at .ensures) ∙ c .if1 .left))
 
 same-length : tie.Need-same-length Inv-loop μ-loop
 same-length c =
@@ -75,7 +79,7 @@ same-length c =
 
 returns : tie.Need-returns Inv-loop μ-loop
 returns c =
-    gathering-end (c .before .before .before .before .pre) (c .before .loop .inv) (c .loop-test .left)
+    gathered _ (c .before .before .before .before .pre) (c .before .loop .inv) (c .loop-test .left)
 
 pub list-kind-spec : {M : Type 1} → statement M
 list-kind-spec =
