@@ -84,7 +84,7 @@ kid-steps : {l : List Node} → Built l → {p q : ℕ} → Steps (HasChild l) p
 kid-steps b (one k) = built-kids b _ _ k
 kid-steps b (more s k) = let x = kid-steps b s in let y = built-kids b _ _ k in omega arith
 
-no-kids : (l : List ℕ) → ((c : ℕ) → ¬ List·Memᴰ c l) → l ≡ []
+pub no-kids : (l : List ℕ) → ((c : ℕ) → ¬ List·Memᴰ c l) → l ≡ []
 no-kids [] h = refl
 no-kids (x ∷ l) h = absurd (h x (List·Memᴰ·head refl))
 

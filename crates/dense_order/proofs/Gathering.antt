@@ -1,16 +1,13 @@
 -- Laws of listing the ids of one kind.
 -- Assumes nothing.
-use Prim.Native.Nat.{ℕ, zero, suc, _+_, _-_, _/_, _<_, _≤_}
+use Prim.Native.Nat.{ℕ, zero, suc, _-_, _/_, _≤_}
 use mathlib.Core.Path.{_≡_, refl, sym, _∙_, ap}
 use mathlib.Core.Bool.{Bool, true, false}
-use mathlib.Core.List.{List, [], _∷_, _++_, List·Memᴰ, List·Memᴰ·head, List·Memᴰ·tail, append-nil, append-assoc}
-use mathlib.Core.Logic.{_≢_}
+use mathlib.Core.List.{List, [], _∷_, List·Memᴰ, List·Memᴰ·head, List·Memᴰ·tail}
 use native.Mathlib.Omega.{arith}
-use native.Mathlib.Numerals.{add-one}
 use lib.Dec.{eqb}
-use borrow.Author.Tests.{eq-eqb, ne-eqb}
-use lib.ListN.{length, getD, set, length-set}
-use lib.Seq.{getD-set-other}
+use borrow.Author.Tests.{ne-eqb}
+use lib.ListN.{length}
 use Rattle.record.specs.Lists.{run}
 use Rattle.record.specs.Node.{size, nodeAt, nodesOf, classOf, rank, class, isExternal, isBlock}
 use Rattle.record.specs.declared.Node.{Node}
@@ -18,8 +15,6 @@ use Rattle.record.proofs.Nodes.{length-nodesOf}
 use Rattle.forest.specs.Lists.{keep, sort}
 use Rattle.forest.specs.Order.{ids, externals, blocks}
 use Rattle.claims.specs.Sorts.{run-in}
-use Rattle.room.specs.Sections.{span, Out}
-use Rattle.room.proofs.Spans.{span-length, span-empty, span-set}
 use Rattle.sorting.specs.Digests.{less}
 use Rattle.sorting.proofs.Keeping.{Keeping, keeping-count, keeping-end}
 use Rattle.sorting.proofs.Uses.{at-node, externals-is}

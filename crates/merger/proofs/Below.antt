@@ -1,25 +1,24 @@
 -- What hangs below a position, by its record and the search for its replacement; and how its finish ends the walk below it.
 -- Assumes nothing.
-use Prim.Native.Nat.{ℕ, zero, suc, _+_, _-_, _*_, _<_, _≤_}
+use Prim.Native.Nat.{ℕ, _+_, _-_, _<_, _≤_}
 use mathlib.Core.Path.{_≡_, refl, sym, _∙_, ap}
-use mathlib.Core.Bool.{Bool, true, false}
-use mathlib.Core.List.{List, [], _∷_, _++_, map, append-nil, List·Memᴰ, List·Memᴰ·head}
-use mathlib.Core.Logic.{_⊎_, inl, inr, _≢_}
-use mathlib.Core.Option.{Option, some, none}
+use mathlib.Core.Bool.{true}
+use mathlib.Core.List.{List, [], _∷_, map, append-nil, List·Memᴰ}
+use mathlib.Core.Logic.{inl, _≢_}
+use mathlib.Core.Option.{some, none}
 use native.Mathlib.Omega.{arith}
 use lib.Dec.{eqb}
 use borrow.Author.Tests.{eq-eqb, ne-eqb}
 use lib.ListN.{length, getD, set, length-map, length-take}
 use lib.Seq.{getD-take}
-use Rattle.record.specs.Node.{nodeAt, classOf, rank, class, isExternal, isInternal, children, renumber}
+use Rattle.record.specs.Node.{nodeAt, isExternal, children, renumber}
 use Rattle.record.specs.declared.Node.{Node}
-use Rattle.record.proofs.Basics.{clash}
 use Rattle.record.proofs.Nodes.{children-renumber, not-internal, full-read}
 use Rattle.forest.specs.Graph.{at, replacement, replacedBy, listed, next}
 use Rattle.forest.specs.Lists.{lastOf}
-use Rattle.forest.specs.Walk.{State, Walked, going, onward, each, visit, finish}
+use Rattle.forest.specs.Walk.{State, going, onward, finish}
+use Rattle.claims.specs.Built.{no-kids}
 use Rattle.claims.specs.Children.{Bare}
-use Rattle.claims.specs.Sound.{Finished}
 use Rattle.room.specs.Places.{placeOf}
 use Rattle.room.specs.Sections.{span}
 use Rattle.room.specs.declared.Place.{Place}
@@ -29,15 +28,10 @@ use Rattle.sorting.specs.Digests.{holds}
 use Rattle.dense_order.proofs.Gathering.{external-kind}
 use Rattle.sorting.proofs.Uses.{getD-map}
 use Rattle.merger.specs.Sections.{basesAt, holdersAt}
-use Rattle.merger.specs.Walking.{Mapped, Charted, Stands, Pushing, Came, Walks, wentOf, under}
-use Rattle.merger.specs.declared.Went.{Went}
+use Rattle.merger.specs.Walking.{Charted, Pushing, Came, Walks, wentOf, under}
 use Rattle.merger.specs.declared.Went.the-variants.{On}
 use Rattle.merger.proofs.Finishing.{inherits}
-use Rattle.merger.proofs.Going.{Gone, gone-done, gone-all, gone-step, gone-stops}
-
-no-members : (l : List ℕ) → ((c : ℕ) → ¬ List·Memᴰ c l) → l ≡ []
-no-members [] h = refl
-no-members (x ∷ l) h = absurd (h x (List·Memᴰ·head refl))
+use Rattle.merger.proofs.Going.{Gone, gone-done, gone-all}
 
 -- WHAT HANGS BELOW --------------------------------------------------------------------------------
 
@@ -59,7 +53,7 @@ module _ {s w : List ℕ} {n h : ℕ} {g : List Node} (c : Charted s w n h g) (p
 
     no-children : children (at g p) ≡ []
     unfolding Bare
-    no-children = no-members (children (at g p)) (λ k m. not-internal (at g p) (inl is-external) (c .mapped .bare p k m))
+    no-children = no-kids (children (at g p)) (λ k m. not-internal (at g p) (inl is-external) (c .mapped .bare p k m))
 
     -- the search for its replacement
     module _ (r : Place) (f : r ≡ placeOf (lastOf (holds s ((nodeAt s p) .digest)) (span w (holdersAt n) (holdersAt n + h)))) where

@@ -1,7 +1,7 @@
 -- What a visit keeps of the walk's state: it stays sound, within the graph and closed, and what is finished stays finished.
 -- Assumes nothing.
 use Prim.Native.Nat.{ℕ, _<_, _≤_}
-use mathlib.Core.Path.{_≡_, refl, sym}
+use mathlib.Core.Path.{_≡_, refl}
 use mathlib.Core.List.{List, [], _∷_, List·Memᴰ, List·Memᴰ·head, List·Memᴰ·tail, List·Memᴰ·eq-of-singleton, List·Memᴰ·not-nil, List·Memᴰ·cases-cons}
 use mathlib.Core.Logic.{_⊎_, inl, inr}
 use mathlib.Core.Option.{some, none}
@@ -11,7 +11,7 @@ use Rattle.record.specs.declared.Node.{Node}
 use Rattle.forest.specs.Graph.{next}
 use Rattle.forest.specs.Walk.{State, start, going, idIn, finish, visit}
 use Rattle.claims.specs.Distinct.{fresh, pigeonhole}
-use Rattle.claims.specs.Sound.{Sound, Finished, sound-start, visit-after, sound-finish}
+use Rattle.claims.specs.Sound.{Finished, sound-start, visit-after}
 use Rattle.claims.specs.WalkInduction.{visit-ind}
 use Rattle.claims.specs.Walks.{positions, idIn-in, finish-positions}
 use Rattle.merger.specs.Walking.{Fine}

@@ -1,30 +1,27 @@
 -- Finishing an open position in the work room: with the id of a merged node, or as a new one.
 -- Assumes nothing.
-use Prim.Native.Nat.{ℕ, zero, suc, _+_, _-_, _*_, _<_, _≤_}
+use Prim.Native.Nat.{ℕ, _+_, _-_, _<_, _≤_}
 use mathlib.Core.Path.{_≡_, refl, sym, _∙_, ap}
-use mathlib.Core.Bool.{Bool, true, false}
-use mathlib.Core.List.{List, [], _∷_, _++_, map, List·Memᴰ, List·Memᴰ·head}
+use mathlib.Core.List.{List, [], _∷_, _++_, List·Memᴰ, List·Memᴰ·head}
 use mathlib.Core.Logic.{_≢_}
-use mathlib.Core.Option.{Option, some, none}
+use mathlib.Core.Option.{some}
 use native.Mathlib.Omega.{arith}
-use native.Mathlib.Decide.{decLt, ℕ-discrete}
+use native.Mathlib.Decide.{ℕ-discrete}
 use lib.ListN.{length, getD, set, length-set, length-append}
 use lib.Seq.{getD-set-same, getD-set-other}
-use Rattle.record.specs.Lists.{run}
-use Rattle.record.specs.Node.{children, renumber, sameNode}
+use Rattle.record.specs.Node.{renumber}
 use Rattle.record.specs.declared.Node.{Node}
 use Rattle.forest.specs.Graph.{at, replacedBy, next}
-use Rattle.forest.specs.Lists.{has, lowest}
-use Rattle.forest.specs.Walk.{State, idIn, orNone, idOf, ended, push, finish}
+use Rattle.forest.specs.Lists.{has}
+use Rattle.forest.specs.Walk.{State, idIn, orNone, idOf, ended, finish}
 use Rattle.claims.specs.Built.{at-last, at-before}
 use Rattle.claims.specs.Sound.{Finished}
 use Rattle.claims.specs.Walks.{idIn-in}
 use Rattle.merger.specs.Sections.{sourcesAt, basesAt}
-use Rattle.merger.specs.Walking.{Mapped, word, mergedAt, Source, Fine, Holds, Came, Pushing}
+use Rattle.merger.specs.Walking.{word, Source, Fine, Holds, Came}
 use Rattle.merger.proofs.Fine.{fine-fewer}
 use Rattle.merger.proofs.Holding.{word-some, word-of, has-other, idIn-same, idIn-other, child-next}
 use Rattle.merger.proofs.Opening.{set-behind}
-use Rattle.merger.proofs.Reading.{merged-is, merged-list}
 use Rattle.dense_order.proofs.Delivering.{renumber-agree}
 
 module _ {g : List Node} {w : List ℕ} {n p : ℕ} {path : List ℕ} {t : State} (f : Fine g n (p ∷ path) t) (h : Holds g w n (p ∷ path) t) (low : p < n) where

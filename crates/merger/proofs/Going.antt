@@ -1,10 +1,9 @@
 -- Taking one position after the other: where the walk has come to after the first i of a list.
 -- Assumes nothing.
-use Prim.Native.Nat.{ℕ, zero, suc, _+_, _-_, _*_, _<_, _≤_}
+use Prim.Native.Nat.{ℕ, suc, _+_, _-_, _<_, _≤_}
 use mathlib.Core.Path.{_≡_, refl, sym, _∙_, ap}
-use mathlib.Core.List.{List, [], _∷_, _++_, List·Memᴰ, List·Memᴰ·eq-of-singleton, List·Memᴰ·append-cases, List·Memᴰ·not-nil}
+use mathlib.Core.List.{List, [], _∷_, List·Memᴰ, List·Memᴰ·eq-of-singleton, List·Memᴰ·append-cases, List·Memᴰ·not-nil}
 use mathlib.Core.Logic.{_⊎_, inl, inr}
-use native.Mathlib.Omega.{arith}
 use native.Mathlib.Numerals.{add-one}
 use lib.ListN.{length, take, drop, getD, drop-of-length-le}
 use lib.Seq.{drop-cons, take-suc, take-all}
@@ -13,9 +12,9 @@ use Rattle.record.proofs.Basics.{clash}
 use Rattle.forest.specs.Walk.{State, Walked, going, cycle, deep, onward, each, visit}
 use Rattle.claims.specs.Sound.{Finished}
 use Rattle.merger.specs.Sections.{basesAt}
-use Rattle.merger.specs.Walking.{Stands, wentOf, Came, Walks}
+use Rattle.merger.specs.Walking.{Stands, wentOf, Walks}
 use Rattle.merger.specs.declared.Went.{Went}
-use Rattle.merger.specs.declared.Went.the-variants.{On, Cycle, TooDeep}
+use Rattle.merger.specs.declared.Went.the-variants.{On}
 use Rattle.merger.proofs.Fine.{visit-fine}
 use Rattle.merger.proofs.Holding.{charted-kept}
 

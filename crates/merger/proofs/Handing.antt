@@ -1,11 +1,11 @@
 -- Laws of delivering: what the settled room gives the three writers, and that they write the merged forest.
 -- Assumes nothing.
-use Prim.Native.Nat.{ℕ, zero, suc, _+_, _*_, _<_, _≤_}
+use Prim.Native.Nat.{ℕ, _+_, _*_, _<_, _≤_}
 use mathlib.Core.Path.{_≡_, refl, sym, _∙_, ap}
-use mathlib.Core.List.{List, [], _∷_, _++_, map, List·Memᴰ, Memᴰ·map, Memᴰ·append-left}
+use mathlib.Core.List.{List, map, List·Memᴰ, Memᴰ·map, Memᴰ·append-left}
 use mathlib.Core.Option.{Option, some, none}
 use native.Mathlib.Omega.{arith}
-use lib.ListN.{length, take, drop, getD, length-map}
+use lib.ListN.{length, getD, length-map}
 use lib.Seq.{ext-getD}
 use Rattle.record.specs.Lists.{run, over, flat}
 use Rattle.record.specs.Node.{nodeAt, nodeBytes, children, renumber}
@@ -28,17 +28,8 @@ use Rattle.merger.specs.Rooms.{Writable, shownAs}
 use Rattle.merger.specs.Sections.{basesAt, orderAt, startsAt}
 use Rattle.merger.specs.Settling.{carriedWord, Settled, Delivered}
 use Rattle.merger.specs.Walking.{mergedAt}
+use Rattle.merger.proofs.Renumbering.{renumber-twice}
 use Rattle.merger.proofs.Writing.{shown-none, shown-id}
-
--- renumbered twice
-renumber-twice : (f h : ℕ → ℕ) (n : Node) → renumber f (renumber h n) ≡ renumber (λ c. f (h c)) n
-unfolding renumber children
-renumber-twice f h n = rw (go (n .count) (n .kids)) refl
-  where
-    go : (c : ℕ) (l : List ℕ) → map f (take c (map h (take c l) ++ drop c l)) ++ drop c (map h (take c l) ++ drop c l) ≡ map (λ x. f (h x)) (take c l) ++ drop c l
-    go zero l = refl
-    go (suc c) [] = refl
-    go (suc c) (x ∷ l) = ap {B = List ℕ} (λ k. f (h x) ∷ k) (go c l)
 
 module _ {s w : List ℕ} {n m count : ℕ} {g : List Node} {ps : List ℕ} {t : State} (a : Settled s w n m count g ps t) where
   abbrev o : List ℕ

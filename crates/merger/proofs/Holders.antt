@@ -1,23 +1,20 @@
 -- Laws of listing the non-externals and of sorting them by digest.
 -- Assumes nothing.
-use Prim.Native.Nat.{ℕ, _+_, _-_, _*_, _/_, _<_, _≤_}
+use Prim.Native.Nat.{ℕ, _+_, _-_, _<_, _≤_}
 use mathlib.Core.Path.{_≡_, refl, sym, _∙_, ap}
-use mathlib.Core.Bool.{Bool, true, false, not}
+use mathlib.Core.Bool.{true, false, not}
 use mathlib.Core.List.{List}
 use mathlib.Core.Logic.{_≢_}
 use native.Mathlib.Omega.{arith}
 use native.Mathlib.Decide.{decLt}
-use lib.Dec.{eqb}
 use borrow.Author.Tests.{eq-eqb, ne-eqb}
-use lib.ListN.{length, getD, replicate, getD-replicate}
-use Rattle.record.specs.Lists.{run}
-use Rattle.record.specs.Node.{size, nodeAt, nodesOf, isExternal}
+use lib.ListN.{length, getD, getD-replicate}
+use Rattle.record.specs.Node.{nodeAt, isExternal}
 use Rattle.record.specs.declared.Node.{Node}
-use Rattle.forest.specs.Graph.{replacement}
-use Rattle.forest.specs.Lists.{keep, lastOf, sort}
-use Rattle.room.specs.Sections.{span, Puts}
+use Rattle.forest.specs.Lists.{lastOf, sort}
+use Rattle.room.specs.Sections.{span}
 use Rattle.room.proofs.Writes.{section-place}
-use Rattle.sorting.specs.Contracts.{Listed, Room, Sorts, Shelf}
+use Rattle.sorting.specs.Contracts.{Listed, Room, Sorts}
 use Rattle.sorting.specs.Digests.{less, holds}
 use Rattle.sorting.proofs.Callers.{shelf-sorted, last-sorted}
 use Rattle.sorting.proofs.Keeping.{Keeping, keeping-count, keeping-end}

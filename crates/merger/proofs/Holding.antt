@@ -1,33 +1,24 @@
 -- How the work room holds the walk's state: words of positions, sources of merged ids, and what opening and finishing do to them.
 -- Assumes nothing.
-use Prim.Native.Nat.{ℕ, zero, suc, _+_, _-_, _*_, _<_, _≤_}
-use mathlib.Core.Path.{_≡_, refl, sym, _∙_, ap}
-use mathlib.Core.Bool.{Bool, true, false, _||_}
-use mathlib.Core.List.{List, [], _∷_, _++_, List·Memᴰ, List·Memᴰ·head, List·Memᴰ·tail, List·Memᴰ·cases-cons, Memᴰ·append-left}
-use mathlib.Core.Logic.{_⊎_, inl, inr, _≢_}
+use Prim.Native.Nat.{ℕ, _+_, _-_, _<_, _≤_}
+use mathlib.Core.Path.{_≡_, refl, _∙_}
+use mathlib.Core.Bool.{Bool, true, false}
+use mathlib.Core.List.{List, _∷_, List·Memᴰ, Memᴰ·append-left}
+use mathlib.Core.Logic.{_≢_}
 use mathlib.Core.Option.{Option, some, none}
 use native.Mathlib.Omega.{arith}
-use native.Mathlib.Decide.{ℕ-discrete}
-use lib.Dec.{eqb}
-use borrow.Author.Tests.{eqb-true, eq-eqb, ne-eqb}
-use lib.ListN.{length, getD, set, length-set}
-use lib.Seq.{getD-set-same, getD-set-other}
-use Rattle.record.specs.Node.{children, renumber, nodeAt}
+use borrow.Author.Tests.{eq-eqb, ne-eqb}
+use lib.ListN.{length, getD}
+use Rattle.record.specs.Node.{children}
 use Rattle.record.specs.declared.Node.{Node}
-use Rattle.record.proofs.Basics.{clash}
-use Rattle.record.proofs.Nodes.{children-renumber}
 use Rattle.forest.specs.Graph.{at, next, listed, replacedBy}
 use Rattle.forest.specs.Lists.{has}
-use Rattle.forest.specs.Walk.{State, idIn, orNone, idOf, ended}
-use Rattle.claims.specs.Searches.{in-has, not-in}
+use Rattle.forest.specs.Walk.{State, idIn, orNone, idOf}
 use Rattle.claims.specs.Sound.{Finished, in-idIn}
-use Rattle.claims.specs.Walks.{idIn-in}
 use Rattle.room.specs.Sections.{span}
 use Rattle.room.proofs.Spans.{span-same}
-use Rattle.merger.specs.Sections.{sourcesAt, basesAt, holdersAt}
-use Rattle.merger.specs.Walking.{Mapped, Charted, word, mergedAt, Readable, Source, Fine, Holds, Stands}
-use Rattle.dense_order.proofs.Delivering.{renumber-agree}
-use Rattle.merger.proofs.Renumbering.{renumber-both}
+use Rattle.merger.specs.Sections.{basesAt, holdersAt}
+use Rattle.merger.specs.Walking.{Mapped, Charted, word, Holds}
 
 -- WORDS -------------------------------------------------------------------------------------------
 

@@ -1,8 +1,8 @@
 -- Laws of the loop that renumbers a node's children by the ids in the room, and of the test for the same children.
 -- Assumes nothing.
-use Prim.Native.Nat.{ℕ, zero, suc, _+_, _-_, _<_, _≤_}
-use mathlib.Core.Path.{_≡_, refl, sym, _∙_, ap}
-use mathlib.Core.List.{List, [], _∷_}
+use Prim.Native.Nat.{ℕ, _+_, _-_, _<_, _≤_}
+use mathlib.Core.Path.{_≡_, refl, _∙_, ap}
+use mathlib.Core.List.{List}
 use native.Mathlib.Omega.{arith}
 use lib.ListN.{length, getD}
 use Rattle.record.specs.Node.{fields, nodeAt, renumber}
@@ -13,18 +13,18 @@ use Rattle.merger.specs.Sections.{basesAt}
 use Rattle.merger.specs.Walking.{mergedAt, Readable}
 
 -- the id that the room has for child c of a forest whose first position is b
-unfoldable pub idAt : List ℕ → ℕ → ℕ → ℕ
-idAt w b c = getD w (b + c) 0 - 2
+unfoldable pub childId : List ℕ → ℕ → ℕ → ℕ
+childId w b c = getD w (b + c) 0 - 2
 
-pub idAt-is : (w : List ℕ) (b c : ℕ) → getD w (b + c) 0 - 2 ≡ idAt w b c
-unfolding idAt
-idAt-is w b c = refl
+pub childId-is : (w : List ℕ) (b c : ℕ) → getD w (b + c) 0 - 2 ≡ childId w b c
+unfolding childId
+childId-is w b c = refl
 
 module _ {s w : List ℕ} {n p : ℕ} (r : Readable s w n p) (x : Node) (is : x ≡ nodeAt s p) where
   pub kids-full : length (x .kids) ≡ fields
   kids-full = rw is ((full-read s p) .kids-long)
 
-  module _ {kids : List ℕ} {i : ℕ} (f : Filled (idAt w (getD w (basesAt n + p) 0)) (x .kids) (x .kids) kids i) where
+  module _ {kids : List ℕ} {i : ℕ} (f : Filled (childId w (getD w (basesAt n + p) 0)) (x .kids) (x .kids) kids i) where
     -- the next child is finished
     pub child-ends : i < x .count → (getD w (basesAt n + p) 0 + getD kids i 0 < n) × (1 < getD w (getD w (basesAt n + p) 0 + getD kids i 0) 0)
     child-ends h =
@@ -34,5 +34,5 @@ module _ {s w : List ℕ} {n p : ℕ} (r : Readable s w n p) (x : Node) (is : x 
 
     -- all children are renumbered
     pub node-read : i ≡ x .count → _≡_ {A = Node} (record { kind = x .kind; count = x .count; kids = kids; digest = x .digest }) (mergedAt s w n p)
-    unfolding mergedAt idAt
+    unfolding mergedAt childId
     node-read e = renumbered-is x f e ∙ ap (renumber _) is

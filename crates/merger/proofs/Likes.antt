@@ -1,6 +1,6 @@
 -- Laws of the search for an equal earlier node: the same children, one node like another, the lowest of them.
 -- Assumes nothing.
-use Prim.Native.Nat.{ℕ, zero, suc, _+_, _<_, _≤_}
+use Prim.Native.Nat.{ℕ, suc, _+_, _<_, _≤_}
 use mathlib.Core.Path.{_≡_, refl, sym, _∙_, ap}
 use mathlib.Core.Bool.{Bool, true, false, _&&_, and-false}
 use mathlib.Core.List.{List, [], _∷_, map}
@@ -11,7 +11,7 @@ use lib.Dec.{eqb}
 use borrow.Author.Tests.{eq-eqb, ne-eqb}
 use lib.ListN.{length, take, drop, getD, length-take, drop-of-length-le}
 use lib.Seq.{drop-cons, getD-take}
-use Rattle.record.specs.Lists.{same, run}
+use Rattle.record.specs.Lists.{same}
 use Rattle.record.specs.Node.{fields, nodeAt, children, renumber, sameNode}
 use Rattle.record.specs.declared.Node.{Node}
 use Rattle.forest.specs.Lists.{hereOr, lowest}

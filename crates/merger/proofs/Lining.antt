@@ -7,7 +7,7 @@ use mathlib.Core.Logic.{_⊎_, inl, inr}
 use mathlib.Core.Bool.{true}
 use native.Mathlib.Omega.{arith}
 use lib.ListN.{length, getD}
-use Rattle.record.specs.Node.{nodeAt, rank, class, isExternal, isBlock, isInternal}
+use Rattle.record.specs.Node.{nodeAt, isExternal, isBlock, isInternal}
 use Rattle.record.proofs.Nodes.{classes, rank-external, rank-block, rank-internal}
 use Rattle.forest.specs.Lists.{keep, sort}
 use Rattle.room.specs.Sections.{span}

@@ -1,11 +1,11 @@
 -- Opening a position in the work room.
 -- Assumes nothing.
-use Prim.Native.Nat.{ℕ, zero, suc, _+_, _-_, _*_, _<_, _≤_}
+use Prim.Native.Nat.{ℕ, zero, suc, _+_, _-_, _<_, _≤_}
 use mathlib.Core.Path.{_≡_, refl, sym, _∙_, ap}
-use mathlib.Core.Bool.{Bool, true, false}
-use mathlib.Core.List.{List, [], _∷_, List·Memᴰ, List·Memᴰ·cases-cons}
-use mathlib.Core.Logic.{_⊎_, inl, inr, _≢_}
-use mathlib.Core.Option.{Option, some, none}
+use mathlib.Core.Bool.{false}
+use mathlib.Core.List.{List, _∷_, List·Memᴰ, List·Memᴰ·cases-cons}
+use mathlib.Core.Logic.{_⊎_, inl, inr}
+use mathlib.Core.Option.{none}
 use native.Mathlib.Omega.{arith}
 use native.Mathlib.Decide.{ℕ-discrete}
 use lib.ListN.{length, getD, set, length-set}
@@ -13,11 +13,11 @@ use lib.Seq.{getD-set-same, getD-set-other}
 use Rattle.record.specs.declared.Node.{Node}
 use Rattle.record.proofs.Basics.{clash}
 use Rattle.forest.specs.Lists.{has}
-use Rattle.forest.specs.Walk.{State, Walked, going, cycle, deep, idIn, Mark, finished, opened, unseen, marked, mark, enter, visit, each, onward, finish}
+use Rattle.forest.specs.Walk.{State, going, cycle, deep, idIn, finished, opened, unseen, marked, mark, enter, visit}
 use Rattle.claims.specs.Searches.{not-in}
 use Rattle.claims.specs.Sound.{Finished, in-idIn}
 use Rattle.merger.specs.Sections.{sourcesAt, basesAt}
-use Rattle.merger.specs.Walking.{Charted, word, Source, Fine, Holds, Stands, under, wentOf, Came, Walks}
+use Rattle.merger.specs.Walking.{word, Stands, under, wentOf, Came, Walks}
 use Rattle.merger.specs.declared.Went.{Went}
 use Rattle.merger.specs.declared.Went.the-variants.{On, Cycle, TooDeep}
 use Rattle.merger.proofs.Holding.{word-unseen, word-open, word-finished, has-other, has-self, word-one, charted-kept}

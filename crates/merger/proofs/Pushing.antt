@@ -1,15 +1,14 @@
 -- Finishing a position that is not replaced: what the search for an equal earlier node finds decides.
 -- Assumes nothing.
-use Prim.Native.Nat.{ℕ, _+_, _*_, _<_, _≤_}
-use mathlib.Core.Path.{_≡_, refl, sym, _∙_, ap}
-use mathlib.Core.List.{List, [], _∷_, _++_, map}
-use mathlib.Core.Option.{Option, some, none}
+use Prim.Native.Nat.{ℕ, _+_, _<_, _≤_}
+use mathlib.Core.Path.{_≡_, refl, sym, _∙_}
+use mathlib.Core.List.{List, [], _∷_, map}
+use mathlib.Core.Option.{some, none}
 use native.Mathlib.Omega.{arith}
-use lib.ListN.{length, getD, set, length-append, length-map}
+use lib.ListN.{length, getD, set, length-append}
 use Rattle.record.specs.Lists.{run}
-use Rattle.record.specs.Node.{fields, nodeAt, renumber, sameNode}
+use Rattle.record.specs.Node.{fields, renumber, sameNode}
 use Rattle.record.specs.declared.Node.{Node}
-use Rattle.record.proofs.Lengths.{length-run}
 use Rattle.forest.specs.Graph.{at}
 use Rattle.forest.specs.Lists.{lowest}
 use Rattle.forest.specs.Walk.{State, idOf, ended, push, finish}

@@ -1,6 +1,6 @@
 -- Merged nodes as the work room has them: records with the ids that the room has for their children.
 -- Assumes nothing.
-use Prim.Native.Nat.{ℕ, zero, suc, _+_, _-_, _*_, _<_, _≤_}
+use Prim.Native.Nat.{ℕ, suc, _+_, _-_, _<_}
 use mathlib.Core.Path.{_≡_, refl, sym, _∙_, ap}
 use mathlib.Core.List.{List, [], _∷_, map, List·Memᴰ, Memᴰ·map}
 use native.Mathlib.Omega.{arith}
@@ -17,7 +17,7 @@ use Rattle.merger.specs.Sections.{sourcesAt, basesAt}
 use Rattle.merger.specs.Walking.{Mapped, mergedAt, Readable, Source, Fine, Holds}
 use Rattle.merger.proofs.Holding.{word-of, child-next}
 use Rattle.dense_order.proofs.Delivering.{renumber-agree}
-use Rattle.merger.proofs.Renumbering.{renumber-both}
+use Rattle.merger.proofs.Renumbering.{renumber-twice}
 
 -- a list by its places
 listed-by : (l : List Node) (f : ℕ → Node) (a : ℕ) → ((k : ℕ) → k < length l → f (a + k) ≡ getD l k noNode) → map f (run a (length l)) ≡ l
@@ -45,7 +45,7 @@ module _ {s w : List ℕ} {n : ℕ} {g : List Node} {path : List ℕ} {t : State
 
     pub merged-is : mergedAt s w n x ≡ renumber (idOf t) (at g x)
     unfolding mergedAt
-    merged-is = renumber-agree _ _ (nodeAt s x) (λ c k. let z = child-word c k in omega arith) ∙ (sym (renumber-both (idOf t) _ (nodeAt s x)) ∙ ap (renumber (idOf t)) (sym (m .nodes x low)))
+    merged-is = renumber-agree _ _ (nodeAt s x) (λ c k. let z = child-word c k in omega arith) ∙ (sym (renumber-twice (idOf t) _ (nodeAt s x)) ∙ ap (renumber (idOf t)) (sym (m .nodes x low)))
 
   -- the source of a merged id is such a position
   source-done : {q k : ℕ} → Source g t q k → Finished t q

@@ -1,8 +1,8 @@
 -- Taking the roots of all forests one after the other.
 -- Assumes nothing.
-use Prim.Native.Nat.{ℕ, _+_, _*_, _<_, _≤_}
+use Prim.Native.Nat.{ℕ, _+_, _<_, _≤_}
 use mathlib.Core.Path.{_≡_, refl, sym, _∙_, ap}
-use mathlib.Core.List.{List, [], List·Memᴰ}
+use mathlib.Core.List.{List, []}
 use native.Mathlib.Omega.{arith}
 use lib.ListN.{length, getD}
 use Rattle.record.specs.declared.Node.{Node}
@@ -38,11 +38,11 @@ pub record Rooting (t s rs w₀ w : List ℕ) (n h d : ℕ) (c : Cursor) (m k : 
 pub rooting-start : {t s rs w : List ℕ} {n h : ℕ} (d : ℕ) (c : Cursor) → c ≡ record { rows = 0; base = 0; nodes = 0; roots = 0 } → Begun t s rs w n h → Rooting t s rs w w n h d c 0 0
 rooting-start {t} {s} {rs} d c e b = record { within = omega arith; long = refl; toward = rw e (toward-start t); gone = λ g q. gone-start d (starts t rs) (stands-start b q) }
 
-onward-going : (o : Walked) → onward o (λ u. going u) ≡ o
+onward-same : (o : Walked) → onward o (λ u. going u) ≡ o
 unfolding onward
-onward-going (going u) = refl
-onward-going (cycle p) = refl
-onward-going (deep p) = refl
+onward-same (going u) = refl
+onward-same (cycle p) = refl
+onward-same (deep p) = refl
 
 module _ {t s rs w₀ w : List ℕ} {n h d : ℕ} {c : Cursor} {m k : ℕ} (b : Begun t s rs w₀ n h) (a : Rooting t s rs w₀ w n h d c m k) where
   -- the next root
@@ -61,7 +61,7 @@ module _ {t s rs w₀ w : List ℕ} {n h d : ℕ} {c : Cursor} {m k : ℕ} (b : 
       unfolding walk
       root-stops {g} q o off =
           let (y, z) = gone-stops (a .gone g q) more x root-at root-low long o off (λ u. going u) in
-          let e : onward (each (visit g d []) (starts t rs) start) (λ u. going u) ≡ each (visit g d []) (starts t rs) start = onward-going _ in
+          let e : onward (each (visit g d []) (starts t rs) start) (λ u. going u) ≡ each (visit g d []) (starts t rs) start = onward-same _ in
           record { answer = y ∙ ap wentOf e; came = λ u i. absurd (z u (e ∙ i)) }
 
       pub rooting-step : (j : ℕ) → r ≡ On j → ((g : List Node) (q : Charted s w₀ n h g) → Walks g w w′ n [] (visit g d [] x ((a .gone g q) .state)) r) → Rooting t s rs w₀ w′ n h d c′ j (k + 1)

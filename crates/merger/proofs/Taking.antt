@@ -1,17 +1,16 @@
 -- Taking what hangs below an open position: an external's replacement, or the children one after the other.
 -- Assumes nothing.
-use Prim.Native.Nat.{ℕ, _+_, _*_, _<_, _≤_}
+use Prim.Native.Nat.{ℕ, _+_, _<_, _≤_}
 use mathlib.Core.Path.{_≡_, refl, sym, _∙_, ap}
 use mathlib.Core.List.{List, [], _∷_, List·Memᴰ, List·Memᴰ·head}
 use mathlib.Core.Logic.{_≢_}
-use mathlib.Core.Option.{none}
 use native.Mathlib.Omega.{arith}
 use lib.ListN.{length, getD, set}
 use Rattle.record.specs.Node.{nodeAt}
 use Rattle.record.specs.declared.Node.{Node}
 use Rattle.forest.specs.Graph.{next}
 use Rattle.forest.specs.Lists.{lastOf}
-use Rattle.forest.specs.Walk.{State, going, onward, each, visit, finish}
+use Rattle.forest.specs.Walk.{State, going, visit, finish}
 use Rattle.claims.specs.Searches.{getD-mem}
 use Rattle.room.specs.Places.{placeOf}
 use Rattle.room.specs.Sections.{span}

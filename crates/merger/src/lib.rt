@@ -9,6 +9,8 @@ use dense_order::Check;
 use forest::Reply;
 
 mod checks;
+mod deliver;
+mod merging;
 mod multi_forest_node_iterator;
 mod result;
 mod table;
@@ -144,7 +146,7 @@ pub fn merge(
         }
         Joined::Whole(m, count) => {
             let n = nodes.len() / record::SIZE;
-            result::deliver(nodes, work, n, m, count, node_out, root_out, ids);
+            deliver::deliver(nodes, work, n, m, count, node_out, root_out, ids);
             room::clear(work);
             Reply::Accepted(m as u64, count as u64)
         }

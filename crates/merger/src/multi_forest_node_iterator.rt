@@ -1,26 +1,24 @@
 // Discovery: the walk over all forests, which merges each node as it finishes.
 ghost use mathlib.Core.Path.{_≡_};
-ghost use mathlib.Core.List.{List, [], _∷_, map, List·Memᴰ};
-ghost use Prim.Native.Nat.{ℕ, _+_, _<_, _≤_};
-ghost use lib.ListN.{length, getD};
-ghost use Rattle.record.specs.Lists.{same, run};
-ghost use Rattle.record.specs.Node.{fields, children, sameNode};
+ghost use mathlib.Core.List.{List, [], _∷_, List·Memᴰ};
+ghost use Prim.Native.Nat.{ℕ, _+_, _<_};
+ghost use Rattle.record.specs.Node.{children};
 ghost use Rattle.record.specs.declared.Node.{Node};
-ghost use Rattle.forest.specs.Lists.{lowest, lastOf};
-ghost use Rattle.forest.specs.Walk.{State, finish, visit, walk};
+ghost use Rattle.forest.specs.Lists.{lastOf};
+ghost use Rattle.forest.specs.Walk.{State, visit, walk};
 ghost use Rattle.room.specs.Places.{placeOf};
 ghost use Rattle.room.specs.Sections.{span};
 ghost use Rattle.sorting.specs.Contracts.{Shelf};
 ghost use Rattle.sorting.specs.Digests.{holds};
-ghost use Rattle.merger.specs.Sections.{sourcesAt, holdersAt};
+ghost use Rattle.merger.specs.Sections.{holdersAt};
 ghost use Rattle.merger.specs.Table.{Few, starts};
-ghost use Rattle.merger.specs.Walking.{Roomy, Lists, Shelved, Charted, Readable, mergedAt, Pushing, Pushable, Somewhere, Inside, Stands, under, Came, Walks, Begun};
+ghost use Rattle.merger.specs.Walking.{Roomy, Lists, Shelved, Charted, Somewhere, Inside, Stands, under, Walks, Begun};
 use crate::BASES;
 use crate::EXTERNAL;
 use crate::HOLDERS;
-use crate::SOURCES;
 use crate::SPARE;
 use crate::Went;
+use crate::merging;
 use crate::table;
 use record::Node;
 use record::WORDS;
@@ -61,101 +59,6 @@ fn replacement(nodes: &[u8], work: &[u32], n: usize, holders: usize, digest: [u6
     ensures { λ r. ⌜ r ≡ placeOf (lastOf (holds (now (nodes .entry)) digest) (span (now (work .entry)) (holdersAt n) (holdersAt n + holders))) ⌝ }
 {
     sorting::find(nodes, work, HOLDERS * n, holders, digest)
-}
-
-// The node at position p with the ids of its children, which are finished.
-pub(crate) fn merged_node(nodes: &[u8], work: &[u32], n: usize, p: usize) -> Node
-    requires { ⌜ Roomy (now nodes) (now work) n ⌝ }
-    requires { ⌜ Readable (now nodes) (now work) n p ⌝ }
-    ensures { λ r. ⌜ r ≡ mergedAt (now (nodes .entry)) (now (work .entry)) n p ⌝ }
-{
-    let node = record::node_at(nodes, p);
-    let base = work[BASES * n + p] as usize;
-    let count = node.count as usize;
-    let mut kids = node.kids;
-    let digest = node.digest;
-    let mut i = 0;
-    while i < count {
-        kids[i] = work[base + kids[i] as usize] - 2;
-        i += 1;
-    }
-    Node {
-        kind: node.kind,
-        count: node.count,
-        kids,
-        digest,
-    }
-}
-
-// Whether two nodes have the same children.
-fn same_children(a: Node, b: Node) -> bool
-    requires { ⌜ (a .count ≤ fields) × (b .count ≤ fields) ⌝ }
-    ensures { λ r. ⌜ r ≡ same (children a) (children b) ⌝ }
-{
-    if a.count != b.count {
-        return false;
-    }
-    let left = a.kids;
-    let right = b.kids;
-    let count = a.count as usize;
-    let mut i = 0;
-    while i < count {
-        if left[i] != right[i] {
-            return false;
-        }
-        i += 1;
-    }
-    true
-}
-
-// Whether the merged node that comes from position q is like this one.
-fn is_like(nodes: &[u8], work: &[u32], n: usize, node: Node, q: usize) -> bool
-    requires { ⌜ Roomy (now nodes) (now work) n ⌝ }
-    requires { ⌜ Readable (now nodes) (now work) n q ⌝ }
-    requires { ⌜ node .count ≤ fields ⌝ }
-    ensures { λ r. ⌜ r ≡ sameNode node (mergedAt (now (nodes .entry)) (now (work .entry)) n q) ⌝ }
-{
-    if record::kind_at(nodes, q) != node.kind {
-        return false;
-    }
-    let digest = node.digest;
-    if !sorting::has_digest(nodes, digest, q as u32) {
-        return false;
-    }
-    same_children(node, merged_node(nodes, work, n, q))
-}
-
-// The lowest merged id whose node is like this one.
-fn find_equal(nodes: &[u8], work: &[u32], n: usize, node: Node, count: usize) -> Place
-    requires { ⌜ Roomy (now nodes) (now work) n ⌝ }
-    requires { ⌜ count ≤ n ⌝ }
-    requires { ⌜ ((k : ℕ) → k < count → Readable (now nodes) (now work) n (getD (now work) (sourcesAt n + k) 0)) ⌝ }
-    requires { ⌜ node .count ≤ fields ⌝ }
-    ensures { λ r. ⌜ r ≡ placeOf (lowest (sameNode node) (map (λ k. mergedAt (now (nodes .entry)) (now (work .entry)) n (getD (now (work .entry)) (sourcesAt n + k) 0)) (run 0 count))) ⌝ }
-{
-    let mut k = 0;
-    while k < count {
-        if is_like(nodes, work, n, node, work[SOURCES * n + k] as usize) {
-            return Place::At(k);
-        }
-        k += 1;
-    }
-    Place::Nothing
-}
-
-// Step 3: finishes position p with the id of an equal earlier node, else appends it; says how many nodes are merged.
-fn push(nodes: &[u8], work: &mut [u32], n: usize, p: usize, count: usize) -> usize
-    requires { ⌜ Pushable (now nodes) (now work) n count p ⌝ }
-    ensures { λ r. ⌜ ((g : List Node) (path : List ℕ) (t : State) → Pushing (now (nodes .entry)) (now (work .entry)) n count p g path t → (r ≡ length ((finish g p t) .merged)) × Came g (now (work .entry)) (now (work .exit)) n path (finish g p t)) ⌝ }
-{
-    let node = merged_node(nodes, work, n, p);
-    if let Place::At(k) = find_equal(nodes, work, n, node, count) {
-        work[p] = (k + 2) as u32;
-        return count;
-    }
-    work[SOURCES * n + count] = p as u32;
-    work[p] = (count + 2) as u32;
-    count + 1
 }
 
 // Step 2: takes position p. A finished node is passed over, an open one is met again, any other is opened.
@@ -205,7 +108,7 @@ fn walk_below(
         let digest = node.digest;
         let found = replacement(nodes, work, n, holders, digest);
         let Place::At(q) = found else {
-            return Went::On(push(nodes, work, n, p, count));
+            return Went::On(merging::push(nodes, work, n, p, count));
         };
         let went = open_node(nodes, work, n, holders, q, left, count);
         let Went::On(merged) = went else {
@@ -235,7 +138,7 @@ fn walk_below(
         merged = more;
         i += 1;
     }
-    Went::On(push(nodes, work, n, p, merged))
+    Went::On(merging::push(nodes, work, n, p, merged))
 }
 
 // Takes the roots of all forests in their order.

@@ -15,7 +15,7 @@ use Rattle.merger.proofs.multi_forest_node_iterator.+open_node+walk_bel
 use Rattle.merger.proofs.multi_forest_node_iterator.walk_below.Reads as walk-below
 use Rattle.merger.proofs.multi_forest_node_iterator.walk_below.Kinds as walk-below-kinds
 use Rattle.merger.proofs.multi_forest_node_iterator.+open_node+walk_below.Lts-walk_below as walk-below-lts
-use Rattle.merger.proofs.multi_forest_node_iterator.push.Reads as push-reads
+use Rattle.merger.proofs.merging.push.Reads as push-reads
 use Rattle.merger.proofs.multi_forest_node_iterator.replacement.Reads as replacement-reads
 use Rattle.record.proofs.node_at.Reads as node-at-reads
 use Rattle.merger.proofs.multi_forest_node_iterator.+open_node+walk_below.{statement}

@@ -2,7 +2,7 @@ use Rattle.merger.proofs.Rooting.{Rooting, rooting-start, root-low, roo
 use Rattle.merger.proofs.Answers.{not-on}
 use lib.ListN.{length}
 use mathlib.Core.List.{[]}
-use mathlib.Core.Path.{_≡_, refl, _∙_}
+use mathlib.Core.Path.{refl, _∙_}
 use Prim.Native.Nat.{_-_}
 use native.Mathlib.Omega.{arith}
 use borrow.Author.Needs.{needs}

@@ -6,8 +6,8 @@ use Rattle.room.proofs.Spans.{span-at}
 use Rattle.room.proofs.Writes.{Putting}
 use Rattle.merger.specs.Sections.{startsAt}
 use Rattle.merger.proofs.Writing.{roots-start, roots-step, roots-end}
-use Rattle.merger.proofs.result.write_roots.Statement.{statement}
-use Rattle.merger.proofs.result.write_roots.Tie as tie
+use Rattle.merger.proofs.deliver.write_roots.Statement.{statement}
+use Rattle.merger.proofs.deliver.write_roots.Tie as tie
 
 abbrev Inv-loop : tie.InvT-loop
 Inv-loop work n count out₀ i₀ out i = Putting (span work (startsAt n) (startsAt n + count)) out₀ out 0 count i

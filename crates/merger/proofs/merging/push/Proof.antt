@@ -2,8 +2,8 @@ use Rattle.merger.proofs.Pushing.{roomy, own-readable, sources-readable
 use lib.ListN.{length-set}
 use native.Mathlib.Omega.{arith}
 use borrow.Author.Needs.{needs}
-use Rattle.merger.proofs.multi_forest_node_iterator.push.Statement.{statement}
-use Rattle.merger.proofs.multi_forest_node_iterator.push.Tie as tie
+use Rattle.merger.proofs.merging.push.Statement.{statement}
+use Rattle.merger.proofs.merging.push.Tie as tie
 
 pub push-spec : {M : Type 1} → statement M
 push-spec =

@@ -3,10 +3,10 @@ use Rattle.record.specs.declared.Node.{Node}
 use Rattle.record.specs.Node.{children}
 use Rattle.record.specs.Lists.{same}
 use Rattle.merger.proofs.Likes.{own-fits, unlike-kind, unlike-digest, like-by-children}
-use mathlib.Core.Path.{_≡_, sym, _∙_, ap}
+use mathlib.Core.Path.{sym, _∙_, ap}
 use borrow.Author.Needs.{needs}
-use Rattle.merger.proofs.multi_forest_node_iterator.is_like.Statement.{statement}
-use Rattle.merger.proofs.multi_forest_node_iterator.is_like.Tie as tie
+use Rattle.merger.proofs.merging.is_like.Statement.{statement}
+use Rattle.merger.proofs.merging.is_like.Tie as tie
 
 returns : tie.Need-returns
 returns c =

@@ -5,8 +5,8 @@ use mathlib.Core.Path.{_≡_, _∙_}
 use Prim.Native.Nat.{_-_}
 use native.Mathlib.Omega.{arith}
 use borrow.Author.Needs.{needs}
-use Rattle.merger.proofs.multi_forest_node_iterator.same_children.Statement.{statement}
-use Rattle.merger.proofs.multi_forest_node_iterator.same_children.Tie as tie
+use Rattle.merger.proofs.merging.same_children.Statement.{statement}
+use Rattle.merger.proofs.merging.same_children.Tie as tie
 
 abbrev Inv-loop : tie.InvT-loop
 Inv-loop left right count i₀ i = Matching left right count i

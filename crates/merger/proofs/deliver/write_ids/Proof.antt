@@ -6,8 +6,8 @@ use Rattle.record.specs.Lists.{run}
 use Rattle.record.proofs.Lengths.{length-run}
 use Rattle.dense_order.proofs.Filling.{Filled, filled-start, filled-long, filled-step, filled-end, ids-at}
 use Rattle.merger.specs.Rooms.{shownAs}
-use Rattle.merger.proofs.result.write_ids.Statement.{statement}
-use Rattle.merger.proofs.result.write_ids.Tie as tie
+use Rattle.merger.proofs.deliver.write_ids.Statement.{statement}
+use Rattle.merger.proofs.deliver.write_ids.Tie as tie
 
 abbrev Inv-loop : tie.InvT-loop
 Inv-loop work n ids₀ p₀ ids p = Filled (λ q. shownAs (getD work q 0)) (run 0 n) ids₀ ids p

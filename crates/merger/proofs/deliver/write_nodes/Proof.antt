@@ -5,8 +5,8 @@ use Rattle.dense_order.proofs.Records.{Wrote}
 use Rattle.merger.specs.Sections.{orderAt}
 use Rattle.merger.specs.Walking.{mergedAt}
 use Rattle.merger.proofs.Writing.{nodes-start, nodes-long, nodes-step, nodes-end}
-use Rattle.merger.proofs.result.write_nodes.Statement.{statement}
-use Rattle.merger.proofs.result.write_nodes.Tie as tie
+use Rattle.merger.proofs.deliver.write_nodes.Statement.{statement}
+use Rattle.merger.proofs.deliver.write_nodes.Tie as tie
 
 abbrev Inv-loop : tie.InvT-loop
 Inv-loop nodes work n m out₀ j₀ out j = Wrote (mergedAt nodes work n) (span work (orderAt n) (orderAt n + m)) out₀ out j

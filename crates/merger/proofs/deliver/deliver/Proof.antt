@@ -1,7 +1,7 @@
 use borrow.Author.Needs.{needs}
 use Rattle.merger.proofs.Handing.{writable, room-given, delivered}
-use Rattle.merger.proofs.result.deliver.Statement.{statement}
-use Rattle.merger.proofs.result.deliver.Tie as tie
+use Rattle.merger.proofs.deliver.deliver.Statement.{statement}
+use Rattle.merger.proofs.deliver.deliver.Tie as tie
 
 write-nodes-requires : tie.Need-write-nodes-requires
 write-nodes-requires c κs =

@@ -1,4 +1,4 @@
-use Rattle.merger.proofs.Kids.{idAt, idAt-is, kids-full, child-ends, node-read}
+use Rattle.merger.proofs.Kids.{childId, childId-is, kids-full, child-ends, node-read}
 use Rattle.dense_order.proofs.Filling.{Filled, filled-start, filled-again}
 use Rattle.record.specs.declared.Node.{Node}
 use Rattle.record.specs.Node.{fields}
@@ -7,11 +7,11 @@ use mathlib.Core.Path.{_≡_, refl, ap}
 use Prim.Native.Nat.{_-_, _+_, _*_, _≤_}
 use native.Mathlib.Omega.{arith}
 use borrow.Author.Needs.{needs}
-use Rattle.merger.proofs.multi_forest_node_iterator.merged_node.Statement.{statement}
-use Rattle.merger.proofs.multi_forest_node_iterator.merged_node.Tie as tie
+use Rattle.merger.proofs.merging.merged_node.Statement.{statement}
+use Rattle.merger.proofs.merging.merged_node.Tie as tie
 
 abbrev Inv-loop : tie.InvT-loop
-Inv-loop nodes work n p node base count kids₀ digest i₀ kids i = (i ≤ node .count) × Filled (idAt work base) (node .kids) (node .kids) kids i
+Inv-loop nodes work n p node base count kids₀ digest i₀ kids i = (i ≤ node .count) × Filled (childId work base) (node .kids) (node .kids) kids i
 
 abbrev μ-loop : tie.MeasureT-loop
 μ-loop nodes work n p node base count kids₀ digest i₀ kids i = node .count - i
@@ -54,6 +54,6 @@ merged-node-spec =
     let z = b .pre .1 .fit in
     let y = ap (λ (x : Node). x .count) (c .before .before .before .before .before .before .before .node-at .ensures) in
     let k : length (c .before .before .before .before .before .before .before .node-at .result .kids) ≡ fields = kids-full (b .pre .1) _ (c .before .before .before .before .before .before .before .node-at .ensures) in
-    (omega (arith, c .before .loop-test .taken), filled-again (c .before .before .loop .inv .1) (omega (arith, c .before .loop-test .taken)) (idAt-is _ _ _)))
+    (omega (arith, c .before .loop-test .taken), filled-again (c .before .before .loop .inv .1) (omega (arith, c .before .loop-test .taken)) (childId-is _ _ _)))
     (λ c. let b = c .before .before .before .before .before .before .before .before .before in
     node-read (b .pre .1) _ (c .before .before .before .before .before .before .node-at .ensures) (c .before .loop .inv .1) (omega (arith, c .before .loop .inv .0, c .loop-test .left))))

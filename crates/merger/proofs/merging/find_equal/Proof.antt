@@ -4,12 +4,12 @@ use Rattle.merger.specs.Sections.{sourcesAt}
 use Rattle.dense_order.proofs.Marking.{Failing, failing-start, failing-found, failing-step, failing-end}
 use Rattle.record.specs.Node.{sameNode}
 use lib.ListN.{getD}
-use mathlib.Core.Path.{_≡_, sym, _∙_, refl}
+use mathlib.Core.Path.{sym, _∙_, refl}
 use Prim.Native.Nat.{_-_, _+_, _*_}
 use native.Mathlib.Omega.{arith}
 use borrow.Author.Needs.{needs}
-use Rattle.merger.proofs.multi_forest_node_iterator.find_equal.Statement.{statement}
-use Rattle.merger.proofs.multi_forest_node_iterator.find_equal.Tie as tie
+use Rattle.merger.proofs.merging.find_equal.Statement.{statement}
+use Rattle.merger.proofs.merging.find_equal.Tie as tie
 
 abbrev Inv-loop : tie.InvT-loop
 Inv-loop nodes work n node count k₀ k = Failing (λ j. sameNode node (mergedAt nodes work n (getD work (sourcesAt n + j) 0))) count k
