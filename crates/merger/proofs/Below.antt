@@ -11,23 +11,21 @@ use lib.Dec.{eqb}
 use borrow.Author.Tests.{eq-eqb, ne-eqb}
 use lib.ListN.{length, getD, set, length-map, length-take}
 use lib.Seq.{getD-take}
-use Rattle.record.specs.Node.{nodeAt, isExternal, children, renumber}
+use Rattle.record.specs.Node.{nodeAt, nodesOf, isExternal, children, renumber}
 use Rattle.record.specs.declared.Node.{Node}
 use Rattle.record.proofs.Nodes.{children-renumber, not-internal, full-read}
 use Rattle.forest.specs.Graph.{at, replacement, replacedBy, listed, next}
-use Rattle.forest.specs.Lists.{lastOf}
 use Rattle.forest.specs.Walk.{State, going, onward, finish}
 use Rattle.claims.specs.Built.{no-kids}
 use Rattle.claims.specs.Children.{Bare}
 use Rattle.room.specs.Places.{placeOf}
-use Rattle.room.specs.Sections.{span}
 use Rattle.room.specs.declared.Place.{Place}
 use Rattle.room.specs.declared.Place.the-variants.{At, Nothing}
 use Rattle.room.proofs.Answers.{at-some, nothing-none}
 use Rattle.sorting.specs.Digests.{holds}
 use Rattle.dense_order.proofs.Gathering.{external-kind}
 use Rattle.sorting.proofs.Uses.{getD-map}
-use Rattle.merger.specs.Sections.{basesAt, holdersAt}
+use Rattle.merger.specs.Sections.{basesAt}
 use Rattle.merger.specs.Walking.{Charted, Pushing, Came, Walks, wentOf, under}
 use Rattle.merger.specs.declared.Went.the-variants.{On}
 use Rattle.merger.proofs.Finishing.{inherits}
@@ -56,16 +54,16 @@ module _ {s w : List ℕ} {n h : ℕ} {g : List Node} (c : Charted s w n h g) (p
     no-children = no-kids (children (at g p)) (λ k m. not-internal (at g p) (inl is-external) (c .mapped .bare p k m))
 
     -- the search for its replacement
-    module _ (r : Place) (f : r ≡ placeOf (lastOf (holds s ((nodeAt s p) .digest)) (span w (holdersAt n) (holdersAt n + h)))) where
+    module _ (r : Place) (f : r ≡ placeOf (replacement (nodesOf s) ((nodeAt s p) .digest))) where
       pub replaced-by : (q : ℕ) → r ≡ At q → replacedBy g p ≡ some q
-      replaced-by q z = replaced-is ∙ (sym (c .last _) ∙ at-some _ r q f z)
+      replaced-by q z = replaced-is ∙ (sym (c .same _) ∙ at-some _ r q f z)
 
       pub next-one : (q : ℕ) → r ≡ At q → next g p ≡ q ∷ []
       unfolding next listed
       next-one q z = rw (no-children, replaced-by q z) refl
 
       pub unreplaced : r ≡ Nothing → replacedBy g p ≡ none
-      unreplaced z = replaced-is ∙ (sym (c .last _) ∙ nothing-none _ r f z)
+      unreplaced z = replaced-is ∙ (sym (c .same _) ∙ nothing-none _ r f z)
 
       pub next-none : r ≡ Nothing → next g p ≡ []
       unfolding next listed

@@ -94,7 +94,7 @@ module _ {limit : ℕ} {i : Input} {w : List ℕ} {n : ℕ} (past : Past limit i
     alike p l = rw (based-at p (omega arith)) (refl, refl)
 
     pub charted : Charted (i .nodes) w₃ n h (graph i)
-    charted = record { mapped = mapped; shelf = shelved .shelf; last = λ d. shelved .last d ∙ same-holders (i .nodes) (graph i) (counts ∙ counted) alike d }
+    charted = record { mapped = mapped; held = shelved .held; same = λ d. same-holders (i .nodes) (graph i) (counts ∙ counted) alike d }
 
     pub begun : Begun (i .table) (i .nodes) (i .roots) w₃ n h
     begun = record {

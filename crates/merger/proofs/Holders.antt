@@ -64,8 +64,10 @@ module _ {s w w′ : List ℕ} {n r : ℕ} (a : Roomy s w n) (long : length w′
         let x = a .room in
         let y = l .few in
         record {
-          shelf = shelf-sorted s v (others s) (holdersAt n) r (omega arith) others-listed sorted-is;
-          last = λ d. ap (lastOf (holds s d)) sorted-is ∙ (last-sorted s d (others s) ∙ sym (replacement-is s d));
+          held = record {
+            shelf = shelf-sorted s v (others s) (holdersAt n) r (omega arith) others-listed sorted-is;
+            last = λ d. ap (lastOf (holds s d)) sorted-is ∙ (last-sorted s d (others s) ∙ sym (replacement-is s d));
+          };
           before = λ k h. o .rest k (λ z. omega arith) (λ z. omega arith) ∙ l .puts .rest k (λ z. omega arith);
           zeros = λ z k h. zero z k h (decLt k (spareAt n + r));
         }

@@ -88,11 +88,14 @@ mapped-kept {s} {w} {w′} {n} {g} l r m = record {
 
 pub charted-kept : {s w w′ : List ℕ} {n h : ℕ} {g : List Node} → length w′ ≡ length w → ((y : ℕ) → basesAt n ≤ y → getD w′ y 0 ≡ getD w y 0) → Charted s w n h g → Charted s w′ n h g
 charted-kept {s} {w} {w′} {n} {h} {g} l r c =
-    let e : span w′ (holdersAt n) (holdersAt n + h) ≡ span w (holdersAt n) (holdersAt n + h) = span-same w′ w (holdersAt n) (holdersAt n + h) l (c .shelf .fits) (λ p a b. r p (omega arith)) in
+    let e : span w′ (holdersAt n) (holdersAt n + h) ≡ span w (holdersAt n) (holdersAt n + h) = span-same w′ w (holdersAt n) (holdersAt n + h) l (c .held .shelf .fits) (λ p a b. r p (omega arith)) in
     record {
       mapped = mapped-kept l r (c .mapped);
-      shelf = record { fits = rw l (c .shelf .fits); listed = rw e (c .shelf .listed); ordered = rw e (c .shelf .ordered) };
-      last = rw e (c .last);
+      held = record {
+        shelf = record { fits = rw l (c .held .shelf .fits); listed = rw e (c .held .shelf .listed); ordered = rw e (c .held .shelf .ordered) };
+        last = rw e (c .held .last);
+      };
+      same = c .same;
     }
 
 -- a child is among what hangs below

@@ -6,18 +6,15 @@ use mathlib.Core.List.{List, [], _∷_, List·Memᴰ, List·Memᴰ·head}
 use mathlib.Core.Logic.{_≢_}
 use native.Mathlib.Omega.{arith}
 use lib.ListN.{length, getD, set}
-use Rattle.record.specs.Node.{nodeAt}
+use Rattle.record.specs.Node.{nodeAt, nodesOf}
 use Rattle.record.specs.declared.Node.{Node}
-use Rattle.forest.specs.Graph.{next}
-use Rattle.forest.specs.Lists.{lastOf}
+use Rattle.forest.specs.Graph.{replacement, next}
 use Rattle.forest.specs.Walk.{State, going, visit, finish}
 use Rattle.claims.specs.Searches.{getD-mem}
 use Rattle.room.specs.Places.{placeOf}
-use Rattle.room.specs.Sections.{span}
 use Rattle.room.specs.declared.Place.{Place}
 use Rattle.room.specs.declared.Place.the-variants.{At, Nothing}
-use Rattle.sorting.specs.Digests.{holds}
-use Rattle.merger.specs.Sections.{basesAt, holdersAt}
+use Rattle.merger.specs.Sections.{basesAt}
 use Rattle.merger.specs.Walking.{Stands, Pushing, Came, Walks, under}
 use Rattle.merger.specs.declared.Went.{Went}
 use Rattle.merger.specs.declared.Went.the-variants.{On}
@@ -33,11 +30,11 @@ stops {p = p} {g = g} a more x is low long k off = let (y, z) = gone-stops a mor
 -- AN EXTERNAL -------------------------------------------------------------------------------------
 
 module _ {s w : List ℕ} {n h m p : ℕ} {g : List Node} {path : List ℕ} {t : State} (q : Stands s w n h m g (p ∷ path) t) (low : p < n) (d : ℕ)
-    (x : Node) (is : x ≡ nodeAt s p) (e : x .kind ≡ 0) (r : Place) (f : r ≡ placeOf (lastOf (holds s (x .digest)) (span w (holdersAt n) (holdersAt n + h)))) where
+    (x : Node) (is : x ≡ nodeAt s p) (e : x .kind ≡ 0) (r : Place) (f : r ≡ placeOf (replacement (nodesOf s) (x .digest))) where
   external : (nodeAt s p) .kind ≡ 0
   external = ap (λ (y : Node). y .kind) (sym is) ∙ e
 
-  found : r ≡ placeOf (lastOf (holds s ((nodeAt s p) .digest)) (span w (holdersAt n) (holdersAt n + h)))
+  found : r ≡ placeOf (replacement (nodesOf s) ((nodeAt s p) .digest))
   found = rw (← is) f
 
   abbrev begun : Gone s w w n h d m 0 g (p ∷ path) (next g p) t

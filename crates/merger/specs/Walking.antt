@@ -35,11 +35,16 @@ pub record Mapped (s w : List ℕ) (n : ℕ) (g : List Node) : Type 0 where
   pub inside : (p c : ℕ) → List·Memᴰ c (next g p) → c < n
   pub bare : Bare g
 
--- and its h holders stand by digest, so that the last of a digest is the replacement
+-- the h non-externals stand by digest, so that the last of a digest is the replacement
+pub record Held (s w : List ℕ) (n h : ℕ) : Type 0 where
+  pub shelf : Shelf s w (holdersAt n) h
+  pub last : (d : List ℕ) → lastOf (holds s d) (span w (holdersAt n) (holdersAt n + h)) ≡ replacement (nodesOf s) d
+
+-- a graph whose replacements can be looked up: they are those of the records
 pub record Charted (s w : List ℕ) (n h : ℕ) (g : List Node) : Type 0 where
   pub mapped : Mapped s w n g
-  pub shelf : Shelf s w (holdersAt n) h
-  pub last : (d : List ℕ) → lastOf (holds s d) (span w (holdersAt n) (holdersAt n + h)) ≡ replacement g d
+  pub held : Held s w n h
+  pub same : (d : List ℕ) → replacement (nodesOf s) d ≡ replacement g d
 
 -- room for n nodes
 pub record Roomy (s w : List ℕ) (n : ℕ) : Type 0 where
@@ -59,8 +64,7 @@ pub record Lists (s w w′ : List ℕ) (n r : ℕ) : Type 0 where
 
 -- they stand by digest; what stands before them is as it was, and what was 0 from the spare section on is 0
 pub record Shelved (s w w′ : List ℕ) (n r : ℕ) : Type 0 where
-  pub shelf : Shelf s w′ (holdersAt n) r
-  pub last : (d : List ℕ) → lastOf (holds s d) (span w′ (holdersAt n) (holdersAt n + r)) ≡ replacement (nodesOf s) d
+  pub held : Held s w′ n r
   pub before : (y : ℕ) → y < holdersAt n → getD w′ y 0 ≡ getD w y 0
   pub zeros : ((y : ℕ) → spareAt n ≤ y → getD w y 0 ≡ 0) → (y : ℕ) → spareAt n ≤ y → getD w′ y 0 ≡ 0
 

@@ -1,18 +1,14 @@
 // Discovery: the walk over all forests, which merges each node as it finishes.
 ghost use mathlib.Core.Path.{_≡_};
 ghost use mathlib.Core.List.{List, [], _∷_, List·Memᴰ};
-ghost use Prim.Native.Nat.{ℕ, _+_, _<_};
-ghost use Rattle.record.specs.Node.{children};
+ghost use Prim.Native.Nat.{ℕ, _<_};
+ghost use Rattle.record.specs.Node.{nodesOf};
 ghost use Rattle.record.specs.declared.Node.{Node};
-ghost use Rattle.forest.specs.Lists.{lastOf};
+ghost use Rattle.forest.specs.Graph.{replacement as replacementOf};
 ghost use Rattle.forest.specs.Walk.{State, visit, walk};
 ghost use Rattle.room.specs.Places.{placeOf};
-ghost use Rattle.room.specs.Sections.{span};
-ghost use Rattle.sorting.specs.Contracts.{Shelf};
-ghost use Rattle.sorting.specs.Digests.{holds};
-ghost use Rattle.merger.specs.Sections.{holdersAt};
 ghost use Rattle.merger.specs.Table.{Few, starts};
-ghost use Rattle.merger.specs.Walking.{Roomy, Lists, Shelved, Charted, Somewhere, Inside, Stands, under, Walks, Begun};
+ghost use Rattle.merger.specs.Walking.{Roomy, Lists, Shelved, Held, Charted, Somewhere, Inside, Stands, under, Walks, Begun};
 use crate::BASES;
 use crate::EXTERNAL;
 use crate::HOLDERS;
@@ -55,8 +51,8 @@ pub(crate) fn sort_holders(nodes: &[u8], work: &mut [u32], n: usize) -> usize
 
 // Step 1: the highest position with a non-external of this digest.
 fn replacement(nodes: &[u8], work: &[u32], n: usize, holders: usize, digest: [u64; WORDS]) -> Place
-    requires { ⌜ Shelf (now nodes) (now work) (holdersAt n) holders ⌝ }
-    ensures { λ r. ⌜ r ≡ placeOf (lastOf (holds (now (nodes .entry)) digest) (span (now (work .entry)) (holdersAt n) (holdersAt n + holders))) ⌝ }
+    requires { ⌜ Held (now nodes) (now work) n holders ⌝ }
+    ensures { λ r. ⌜ r ≡ placeOf (replacementOf (nodesOf (now (nodes .entry))) digest) ⌝ }
 {
     sorting::find(nodes, work, HOLDERS * n, holders, digest)
 }

@@ -106,7 +106,7 @@ pub +open-node+walk-below-spec : {M : Type 1} → statement M
     let z = b .pre .1 .0 .stands .charted .mapped .counted in omega (arith, b .pre .1 .1))
     (λ c κs.
     let b = c .before .before .before .before .before .before .before in
-    b .pre .1 .0 .stands .charted .shelf)
+    b .pre .1 .0 .stands .charted .held)
     (λ c. search needs)
     (λ c. search needs)
     (λ c κs.
