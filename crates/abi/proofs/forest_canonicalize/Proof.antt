@@ -1,0 +1,20 @@
+use Rattle.abi.proofs.Telling.{leaves}
+use borrow.Author.Needs.{needs}
+use Rattle.abi.proofs.forest_canonicalize.Statement.{statement}
+use Rattle.abi.proofs.forest_canonicalize.Tie as tie
+
+returns : tie.Need-returns
+returns c =
+    leaves (c .before .before .before .before .before .before .before .before .before .before .before .canonicalize .ensures) (c .answer .ensures)
+
+pub forest-canonicalize-spec : {M : Type 1} → statement M
+forest-canonicalize-spec =
+    tie.close
+    (tie.spec
+    (λ c κs. search needs)
+    (λ c κs. search needs)
+    (λ c. search needs)
+    (λ c. search needs)
+    (λ c. search needs)
+    (λ c. search needs)
+    returns)
