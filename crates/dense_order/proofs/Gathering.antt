@@ -11,6 +11,7 @@ use lib.ListN.{length}
 use Rattle.record.specs.Lists.{run}
 use Rattle.record.specs.Node.{size, nodeAt, nodesOf, classOf, rank, class, isExternal, isBlock}
 use Rattle.record.specs.declared.Node.{Node}
+use Rattle.record.proofs.Lengths.{length-run}
 use Rattle.record.proofs.Nodes.{length-nodesOf}
 use Rattle.forest.specs.Lists.{keep, sort}
 use Rattle.forest.specs.Order.{ids, externals, blocks}
@@ -21,13 +22,16 @@ use Rattle.sorting.proofs.Uses.{at-node, externals-is}
 use Rattle.dense_order.specs.Kinds.{ofKind, Space, Kinds}
 
 -- all ids are looked at
-pub gathered : {s w₀ w : List ℕ} {n to count p : ℕ} (k : ℕ) → Space s w₀ n to → Keeping (λ q. eqb ((nodeAt s q) .kind) k) w₀ w n to count p → n ≤ p → Kinds s w₀ w to k count
+pub gathered : {s w₀ w : List ℕ} {n to count p : ℕ} (k : ℕ) → Space s w₀ n to → Keeping (λ q. eqb ((nodeAt s q) .kind) k) (run 0 n) w₀ w to count p → n ≤ p → Kinds s w₀ w to k count
 unfolding ofKind
-gathered k a m h = record {
-  count = rw (← a .counted) (keeping-count m (a .fits) h);
-  few = omega (arith, m .some, m .within, a .counted);
-  puts = rw (← a .counted) (keeping-end m (a .fits) h);
-}
+gathered {n = n} k a m h =
+    let l = length-run 0 n in
+    let f = a .fits in
+    record {
+      count = rw (← a .counted) (keeping-count m (omega arith) (omega arith));
+      few = omega (arith, m .some, m .within, a .counted);
+      puts = rw (← a .counted) (keeping-end m (omega arith) (omega arith));
+    }
 
 -- EXTERNALS, THEN BLOCKS --------------------------------------------------------------------------
 

@@ -9,8 +9,10 @@ use native.Mathlib.Omega.{arith}
 use native.Mathlib.Decide.{decLt}
 use borrow.Author.Tests.{eq-eqb, ne-eqb}
 use lib.ListN.{length, getD, getD-replicate}
+use Rattle.record.specs.Lists.{run}
 use Rattle.record.specs.Node.{nodeAt, isExternal}
 use Rattle.record.specs.declared.Node.{Node}
+use Rattle.record.proofs.Lengths.{length-run}
 use Rattle.forest.specs.Lists.{lastOf, sort}
 use Rattle.room.specs.Sections.{span}
 use Rattle.room.proofs.Writes.{section-place}
@@ -31,14 +33,15 @@ pub not-other : (n : Node) → n .kind ≡ 0 → not (isExternal n) ≡ false
 not-other n e = rw (external-kind n, eq-eqb (n .kind) 0 e) refl
 
 -- all are looked at
-pub listed-all : {s w₀ w : List ℕ} {n count p : ℕ} → Roomy s w₀ n → Keeping (λ q. not (isExternal (nodeAt s q))) w₀ w n (holdersAt n) count p → n ≤ p → Lists s w₀ w n count
+pub listed-all : {s w₀ w : List ℕ} {n count p : ℕ} → Roomy s w₀ n → Keeping (λ q. not (isExternal (nodeAt s q))) (run 0 n) w₀ w (holdersAt n) count p → n ≤ p → Lists s w₀ w n count
 unfolding others
-listed-all a m h =
+listed-all {n = n} a m h =
     let l = a .room in
+    let k = length-run 0 n in
     record {
-      count = rw (← a .counted) (keeping-count m (omega arith) h);
+      count = rw (← a .counted) (keeping-count m (omega arith) (omega arith));
       few = omega (arith, m .some, m .within);
-      puts = rw (← a .counted) (keeping-end m (omega arith) h);
+      puts = rw (← a .counted) (keeping-end m (omega arith) (omega arith));
     }
 
 module _ {s w w′ : List ℕ} {n r : ℕ} (a : Roomy s w n) (long : length w′ ≡ length w) (l : Lists s w w′ n r) where

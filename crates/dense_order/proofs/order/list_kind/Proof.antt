@@ -3,14 +3,15 @@ use mathlib.Core.Path.{sym, _∙_}
 use native.Mathlib.Omega.{arith}
 use lib.Dec.{eqb}
 use borrow.Author.Tests.{eq-eqb, ne-eqb}
+use Rattle.record.specs.Lists.{run}
 use Rattle.record.specs.Node.{nodeAt}
-use Rattle.sorting.proofs.Keeping.{Keeping, keeping-start, keeping-past, keeping-on}
+use Rattle.sorting.proofs.Keeping.{Keeping, keeping-start, numbers-past, numbers-on}
 use Rattle.dense_order.proofs.Gathering.{gathered}
 use Rattle.dense_order.proofs.order.list_kind.Statement.{statement}
 use Rattle.dense_order.proofs.order.list_kind.Tie as tie
 
 abbrev Inv-loop : tie.InvT-loop
-Inv-loop nodes work₀ n to kind count₀ p₀ work count p = Keeping (λ q. eqb ((nodeAt nodes q) .kind) kind) work₀ work n to count p
+Inv-loop nodes work₀ n to kind count₀ p₀ work count p = Keeping (λ q. eqb ((nodeAt nodes q) .kind) kind) (run 0 n) work₀ work to count p
 
 abbrev μ-loop : tie.MeasureT-loop
 μ-loop nodes work₀ n to kind count₀ p₀ work count p = n - p
@@ -31,7 +32,7 @@ add-p c =
 
 loop-again : tie.Need-loop-again Inv-loop μ-loop
 loop-again c =
-    keeping-past (c .before .before .before .loop .inv) (c .before .before .loop-test .taken) (ne-eqb _ _ (λ e. c .if1 .taken (c .before .kind-at .ensures ∙ e)))
+    numbers-past (c .before .before .before .loop .inv) (c .before .before .loop-test .taken) (ne-eqb _ _ (λ e. c .if1 .taken (c .before .kind-at .ensures ∙ e)))
 
 cast-work : tie.Need-cast-work Inv-loop μ-loop
 cast-work c =
@@ -71,7 +72,7 @@ add-p-2 c =
 
 loop-again-2 : tie.Need-loop-again-2 Inv-loop μ-loop
 loop-again-2 c =
-    keeping-on (c .before .before .before .loop .inv) (c .before .before .before .before .before .before .pre .fits) (c .before .before .loop-test .taken) (eq-eqb _ _ (sym (c .before .kind-at .ensures) ∙ c .if1 .left))
+    numbers-on (c .before .before .before .loop .inv) (c .before .before .loop-test .taken) (c .before .before .before .before .before .before .pre .fits) (eq-eqb _ _ (sym (c .before .kind-at .ensures) ∙ c .if1 .left))
 
 same-length : tie.Need-same-length Inv-loop μ-loop
 same-length c =

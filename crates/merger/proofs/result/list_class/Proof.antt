@@ -22,7 +22,7 @@ list-class-spec =
     (tie.spec
     Inv-loop
     μ-loop
-    (λ c. classing-start _)
+    (λ c. classing-start _ _ _ _ _ _)
     (λ c. omega arith)
     (λ c. omega arith)
     (λ c. omega arith)
@@ -60,5 +60,5 @@ list-class-spec =
     (c .before .before .kind-at .ensures)
     (c .before .class-of .ensures)
     (c .if1 .left))
-    (λ c. c .before .loop .inv .long)
+    (λ c. c .before .loop .inv .keeping .long)
     (λ c. classing-end (c .before .before .before .before .pre .0) (c .before .before .before .before .pre .1) (c .before .loop .inv) (c .loop-test .left)))
