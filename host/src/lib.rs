@@ -7,7 +7,7 @@
 
 mod cycle;
 #[allow(unsafe_code)]
-mod raw;
+pub mod raw;
 pub mod record;
 mod refusal;
 mod room;

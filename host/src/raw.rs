@@ -1,4 +1,6 @@
-//! The calls into the static library: all unsafe code of this package.
+//! The entry points as they are, for a caller who keeps his own room and looks at it after a refusal too.
+//!
+//! All unsafe code of this package is here.
 //!
 //! Each call is sound for one reason: every pointer and length comes from one Rust slice or reference, so it is
 //! non-null, aligned, valid for that length and, where it is written, exclusive. The library reads and writes
@@ -63,12 +65,12 @@ fn reply(call: impl FnOnce(&mut u64, &mut u64) -> u32) -> Reply {
     }
 }
 
-pub(crate) fn validate(nodes: &[u8]) -> Reply {
+pub fn validate(nodes: &[u8]) -> Reply {
     // Sound: see the head of this module.
     reply(|first, second| unsafe { forest_validate(nodes.as_ptr(), nodes.len(), first, second) })
 }
 
-pub(crate) fn canonicalize(nodes: &[u8], roots: &[u32], room: &mut Room) -> Reply {
+pub fn canonicalize(nodes: &[u8], roots: &[u32], room: &mut Room) -> Reply {
     // Sound: see the head of this module.
     reply(|first, second| unsafe {
         forest_canonicalize(
@@ -90,7 +92,7 @@ pub(crate) fn canonicalize(nodes: &[u8], roots: &[u32], room: &mut Room) -> Repl
     })
 }
 
-pub(crate) fn merge(
+pub fn merge(
     table: &[u8],
     nodes: &[u8],
     roots: &[u32],

@@ -7,10 +7,10 @@ use std::collections::TryReserveError;
 /// Node output, root output, id list and work room.
 #[derive(Debug)]
 pub struct Room {
-    pub(crate) nodes: Vec<u8>,
-    pub(crate) roots: Vec<u32>,
-    pub(crate) ids: Vec<u32>,
-    pub(crate) work: Vec<u32>,
+    pub nodes: Vec<u8>,
+    pub roots: Vec<u32>,
+    pub ids: Vec<u32>,
+    pub work: Vec<u32>,
 }
 
 /// The numbers of elements of a room.
