@@ -11,6 +11,9 @@ pub use word::Word;
 pub mod case;
 pub mod doc01;
 pub mod engine;
+pub mod guard;
+pub mod list;
+#[cfg(feature = "ours")]
 pub mod ours;
 pub mod random;
 pub mod workload;
