@@ -132,9 +132,15 @@ pub fn answer(entry: &Entry) -> Result<(Mark, Out), String> {
         return Ok((why, no_room(entry, &said).unwrap_or(said)));
     }
     let rust = guard::run(&case);
-    let told = rust.as_ref().map_or("stack spent".to_string(), Out::compact);
     let whose = mark(&case, rust.as_ref(), &said).ok_or_else(|| {
-        format!("{}: {}: the Rust {told}, document 01 {}", entry.name, case.short(), said.compact())
+        let told =
+            rust.as_ref().map_or("spends its stack".into(), |o| format!("says {}", o.compact()));
+        let said = said.compact();
+        format!(
+            "{}: {}: the Rust {told}; document 01 says {said}",
+            entry.name,
+            entry.forests_text()
+        )
     })?;
     match rust {
         Some(out) if whose == "rust" => match no_room(entry, &out) {

@@ -148,7 +148,7 @@ impl Entry {
         case
     }
 
-    fn forests_text(&self) -> String {
+    pub fn forests_text(&self) -> String {
         let one = |f: &Forest| parts(&[nodes_text(&f.0), plain_text(&f.1)]);
         match self.op {
             Op::Validate => nodes_text(&self.forests[0].0),
