@@ -90,13 +90,14 @@ fn with_digit(value: u64, digit: u8) -> u64 {
     if digit < b'0' {
         return value;
     }
-    if 1844674407370955160 < value {
-        return value;
-    }
     if b'9' < digit {
         return value;
     }
-    value * 10 + (digit - b'0') as u64
+    let low = (digit - b'0') as u64;
+    if (18446744073709551615 - low) / 10 < value {
+        return value;
+    }
+    value * 10 + low
 }
 
 // The number that begins at a place.

@@ -1,11 +1,12 @@
 -- What a search in a list found, or that it found nothing.
 -- Assumes nothing.
-use Prim.Native.Nat.{ℕ, zero, suc, _+_, _<_}
+use Prim.Native.Nat.{ℕ, zero, suc, _+_, _≤_, _<_}
 use mathlib.Core.Path.{_≡_, refl, sym, _∙_, ap}
 use mathlib.Core.Bool.{Bool, true, false, _||_, true≢false, false≢true, or-true}
 use mathlib.Core.List.{List, [], _∷_, List·Memᴰ, List·Memᴰ·head, List·Memᴰ·tail, List·Memᴰ·append-cases, List·Memᴰ·not-nil, Memᴰ·append-left, Memᴰ·append-right}
 use mathlib.Core.Logic.{_⊎_, inl, inr}
 use mathlib.Core.Option.{Option, some, none}
+use native.Mathlib.Decide.{ℕ-discrete}
 use native.Mathlib.Omega.{arith}
 use lib.Dec.{eqb}
 use borrow.Author.Tests.{eqb-true, eq-eqb}
@@ -68,6 +69,12 @@ hereOr-some true o i e = inl (refl, cc)
 hereOr-some false none i e = absurd (clash (cc))
 hereOr-some false (some j) i e = inr (j, refl, cc)
 
+hereOr-past : (b : Bool) (o : Option ℕ) (i : ℕ) → hereOr b o ≡ some i → 0 < i → (b ≡ false) × ((j : ℕ) × (o ≡ some j) × (i ≡ suc j))
+unfolding hereOr
+hereOr-past true o i e h = let z : 0 ≡ i = cc in absurd (omega arith)
+hereOr-past false none i e h = absurd (clash (cc))
+hereOr-past false (some j) i e h = (refl, (j, refl, cc))
+
 module _ {A : Type 0} where
   later-none : (b : Bool) (x : A) (o : Option A) → later b x o ≡ none → (b ≡ false) × (o ≡ none)
   unfolding later
@@ -129,6 +136,23 @@ lowest-run t a (suc n) i e = go (hereOr-some (t a) (lowest t (run (suc a) n)) i 
 
 pub lowest-ids : (t : ℕ → Bool) (n p : ℕ) → lowest t (run 0 n) ≡ some p → (t p ≡ true) × (p < n)
 lowest-ids t n p e = let (u, v) = lowest-run t 0 n p e in (ap t (let q : p ≡ 0 + p = omega arith in q) ∙ u, v)
+
+-- the search's place in a run is the first: at no number before it the test passes
+pub lowest-before : (t : ℕ → Bool) (a n i : ℕ) → lowest t (run a n) ≡ some i → (x : ℕ) → a ≤ x → x < a + i → t x ≡ false
+unfolding lowest run
+lowest-before t a zero i e x p q = absurd (clash (cc))
+lowest-before t a (suc n) i e x p q =
+    let (f, (j, g, z)) = hereOr-past (t a) (lowest t (run (suc a) n)) i e (omega arith) in
+    elim (ℕ-discrete x a) [
+      | yes d ↦ rw d f
+      | no d ↦ lowest-before t (suc a) n j g x (omega arith) (omega arith)
+    ]
+
+-- tests that agree find the same
+pub lowest-agree : (t u : ℕ → Bool) (a n : ℕ) → ((x : ℕ) → a ≤ x → x < a + n → t x ≡ u x) → lowest t (run a n) ≡ lowest u (run a n)
+unfolding lowest run
+lowest-agree t u a zero h = refl
+lowest-agree t u a (suc n) h = rw (h a (omega arith) (omega arith), lowest-agree t u (suc a) n (λ x p q. h x (omega arith) (omega arith)))
 
 -- the search in a run finds the first number at which the test passes
 pub lowest-at : (t : ℕ → Bool) (a n k : ℕ) → ((x : ℕ) → x < a + k → t x ≡ false) → t (a + k) ≡ true → k < n → lowest t (run a n) ≡ some k

@@ -17,7 +17,7 @@ use Rattle.record.specs.declared.Node.{Node}
 use Rattle.forest.specs.Graph.{joined, at}
 use Rattle.forest.specs.Lists.{has}
 use Rattle.ready.specs.Tree.{member, Tree, Changed}
-use Rattle.ready.proofs.Trees.{tree-outside}
+use Rattle.ready.proofs.Trees.{row-of, tree-outside}
 use Rattle.dense_order.specs.State.{countsAt, readyAt, Counts, Resolved}
 
 -- ONE COUNT LESS ----------------------------------------------------------------------------------
@@ -30,8 +30,11 @@ module _ (w : List ℕ) (n p : ℕ) (h : p < n) (some-left : 0 < getD w (countsA
   stored-other : (y : ℕ) → y ≢ countsAt n + p → getD (lessOne w n p) y 0 ≡ getD w y 0
   stored-other y d = getD-set-other w (countsAt n + p) y _ 0 d
 
+  pub count-placed : countsAt n + p < length w
+  count-placed = let f = (row-of t) .fits in omega arith
+
   stored-own : getD (lessOne w n p) (countsAt n + p) 0 ≡ getD w (countsAt n + p) 0 - 1
-  stored-own = getD-set-same w (countsAt n + p) _ 0 (let f = t .fits in omega arith)
+  stored-own = getD-set-same w (countsAt n + p) _ 0 count-placed
 
   length-stored : length (lessOne w n p) ≡ length w
   length-stored = length-set w (countsAt n + p) _

@@ -23,7 +23,7 @@ use Rattle.claims.specs.Accepting.{unreleased-all}
 use Rattle.claims.specs.Distinct.{pigeonhole}
 use Rattle.claims.specs.Places.{lowest-passes}
 use Rattle.claims.specs.Releases.{begun-distinct, begun-in, length-order}
-use Rattle.claims.specs.Searches.{has-in, in-has, lowest-none, lowest-lt, getD-mem}
+use Rattle.claims.specs.Searches.{has-in, in-has, lowest-none, lowest-lt, lowest-agree, getD-mem}
 use Rattle.claims.specs.Settled.{fits}
 use Rattle.room.specs.Places.{placeOf}
 use Rattle.room.specs.Sections.{span, Out}
@@ -37,7 +37,6 @@ use Rattle.dense_order.specs.Marks.{markOf, Unmarked, Marked}
 use Rattle.dense_order.specs.State.{headsAt, Fair, Settles, Begun, Released, Fresh, Opened}
 use Rattle.dense_order.proofs.Gathering.{externals-kind, blocks-kind}
 use Rattle.dense_order.proofs.Opening.{counted}
-use Rattle.dense_order.proofs.Releasing.{lowest-agree}
 
 -- EXTERNALS ---------------------------------------------------------------------------------------
 

@@ -16,7 +16,7 @@ use Rattle.forest.specs.Graph.{at}
 use Rattle.forest.specs.Lists.{has, lowest}
 use Rattle.forest.specs.Order.{ids, ready, released, begun, order}
 use Rattle.claims.specs.Distinct.{fresh, pigeonhole}
-use Rattle.claims.specs.Searches.{not-in, none-lowest, lowest-ids}
+use Rattle.claims.specs.Searches.{not-in, none-lowest, lowest-ids, lowest-agree}
 use Rattle.claims.specs.Sorts.{run-in}
 use Rattle.room.specs.Sections.{span}
 use Rattle.room.proofs.Spans.{span-length}
@@ -29,11 +29,6 @@ pub record Releasing (s w : List ℕ) (n begun filled : ℕ) : Type 0 where
   pub since : begun ≤ filled
   pub standing : Standing s w n filled filled
   pub whole : order (nodesOf s) ≡ span w 0 filled ++ released (nodesOf s) (n - (filled - begun)) (span w 0 filled)
-
-pub lowest-agree : (t u : ℕ → Bool) (a n : ℕ) → ((x : ℕ) → a ≤ x → x < a + n → t x ≡ u x) → lowest t (run a n) ≡ lowest u (run a n)
-unfolding lowest run
-lowest-agree t u a zero h = refl
-lowest-agree t u a (suc n) h = rw (h a (omega arith) (omega arith), lowest-agree t u (suc a) n (λ x p q. h x (omega arith) (omega arith)))
 
 forest-counted : (s : List ℕ) (n : ℕ) → Fair s n → length (nodesOf s) ≡ n
 forest-counted s n f = length-nodesOf s ∙ sym (f .counted)

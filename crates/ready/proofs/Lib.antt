@@ -1,3 +1,5 @@
+pub mod Bits
 pub mod Trees
-pub mod Roots
+pub mod Firsts
 pub mod Outcomes
+pub mod Edits

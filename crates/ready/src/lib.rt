@@ -1,63 +1,76 @@
-// A set of ids below n, in the 2n words of the work room from `at` on. The leaf of id i, word n + i, is n - i if i is in the set and
-// 0 if not; word k below n is the larger of words 2k and 2k + 1. So the root, word 1, gives the lowest id. Word 0 is not used.
+// A set of ids below n, in the 2n words of the work room from `at` on: a row of n bits, one an id, and, where that is more than one word,
+// behind it the set of those words of the row that are not 0. So the lowest id is found in one look a row.
 ghost use mathlib.Core.Path.{_≡_};
 ghost use mathlib.Core.Bool.{true, false, not};
-ghost use Prim.Native.Nat.{_-_, _<_, _≤_, max};
+ghost use Prim.Native.Nat.{_<_, _≤_};
 ghost use lib.Dec.{eqb};
 ghost use Rattle.record.specs.Lists.{run};
 ghost use Rattle.forest.specs.Lists.{lowest};
 ghost use Rattle.room.specs.Places.{placeOf};
-ghost use Rattle.ready.specs.Tree.{largest, Tree, Changed, member};
+ghost use Rattle.ready.specs.Tree.{words, word, member, Tree, Changed};
 use room::Place;
 
-fn larger(a: u32, b: u32) -> u32
-    ensures { λ r. ⌜ r ≡ max a b ⌝ }
-{
-    if a < b { b } else { a }
-}
+// The bits of a word.
+const WIDTH: usize = 32;
 
-// Sets the leaf of i to x and the words above it to what follows; leaves every other word alone.
-fn set_leaf(work: &mut [u32], at: usize, n: usize, i: usize, x: u32)
-    requires { ⌜ i < n ⌝ }
-    requires { ⌜ ((x ≡ 0 → ⊥) → x ≡ n - i) ⌝ }
-    requires { ⌜ Tree (now work) at n ⌝ }
-    ensures { λ _. ⌜ Changed (not (eqb x 0)) (now (work .entry)) (now (work .exit)) at n i ⌝ }
-{
-    let mut k = n + i;
-    work[at + k] = x;
-    while 1 < k {
-        k = k / 2;
-        work[at + k] = larger(work[at + 2 * k], work[at + (2 * k + 1)]);
-    }
-}
-
-// Puts i into the set; leaves every other id and every word outside the tree alone.
+// Puts i into the set; leaves every other id and every word outside the rows alone.
 pub fn put(work: &mut [u32], at: usize, n: usize, i: usize)
-    requires { ⌜ (i < n) × (n ≤ largest) ⌝ }
+    requires { ⌜ i < n ⌝ }
     requires { ⌜ Tree (now work) at n ⌝ }
     ensures { λ _. ⌜ Changed true (now (work .entry)) (now (work .exit)) at n i ⌝ }
 {
-    set_leaf(work, at, n, i, (n - i) as u32);
+    let k = i / WIDTH;
+    let old = work[at + k];
+    work[at + k] = old | (1 << (i % WIDTH));
+    if (n <= WIDTH) | (0 < old) {
+        return;
+    }
+    let words = (n - 1) / WIDTH + 1;
+    put(work, at + words, words, k);
 }
 
-// Takes i out of the set; leaves every other id and every word outside the tree alone.
+// Takes i out of the set; leaves every other id and every word outside the rows alone.
 pub fn remove(work: &mut [u32], at: usize, n: usize, i: usize)
     requires { ⌜ i < n ⌝ }
     requires { ⌜ Tree (now work) at n ⌝ }
     ensures { λ _. ⌜ Changed false (now (work .entry)) (now (work .exit)) at n i ⌝ }
 {
-    set_leaf(work, at, n, i, 0);
+    let k = i / WIDTH;
+    let old = work[at + k];
+    let rest = old ^ (old & (1 << (i % WIDTH)));
+    work[at + k] = rest;
+    if (n <= WIDTH) | (0 < rest) {
+        return;
+    }
+    let words = (n - 1) / WIDTH + 1;
+    remove(work, at + words, words, k);
 }
 
-// The lowest id in the set, from one look at the root.
+// The first word of a row that is not 0.
+fn first_word(work: &[u32], at: usize, n: usize) -> Place
+    requires { ⌜ 1 ≤ n ⌝ }
+    requires { ⌜ Tree (now work) at n ⌝ }
+    ensures { λ r. ⌜ r ≡ placeOf (lowest (λ k. not (eqb (word (now (work .entry)) at k) 0)) (run 0 (words n))) ⌝ }
+{
+    if WIDTH < n {
+        let words = (n - 1) / WIDTH + 1;
+        return lowest(work, at + words, words);
+    }
+    if work[at] == 0 {
+        return Place::Nothing;
+    }
+    Place::At(0)
+}
+
+// The lowest id in the set, from one look at each row.
 pub fn lowest(work: &[u32], at: usize, n: usize) -> Place
     requires { ⌜ 1 ≤ n ⌝ }
     requires { ⌜ Tree (now work) at n ⌝ }
     ensures { λ r. ⌜ r ≡ placeOf (lowest (member (now (work .entry)) at n) (run 0 n)) ⌝ }
 {
-    let root = work[at + 1];
-    if root == 0 {
+    let found = first_word(work, at, n);
+    let Place::At(k) = found else {
         return Place::Nothing;
-    }
-    Place::At(n - root as usize)
+    };
+    Place::At(WIDTH * k + u32::trailing_zeros(work[at + k]) as usize)
 }

@@ -16,7 +16,7 @@ put-requires : tie.Need-put-requires
 put-requires c κs =
     let b = c .before .before .before .before .before .before .before .before .before in
     let l = c .before .before .before .before .before .link-kids in
-    ((b .pre .1, omega (arith, b .pre .0 .fair .few)), (tree-counted (b .pre .0) (b .pre .1) (l .ensures) (l .kept .1 .0)) .0)
+    (b .pre .1, (tree-counted (b .pre .0) (b .pre .1) (l .ensures) (l .kept .1 .0)) .0)
 
 same-length-2 : tie.Need-same-length-2
 same-length-2 c =

@@ -2,7 +2,7 @@ use mathlib.Core.Path.{_∙_}
 use native.Mathlib.Omega.{arith}
 use lib.ListN.{length-set}
 use borrow.Author.Needs.{needs}
-use Rattle.dense_order.proofs.Counting.{stored-tree, resolved-some, resolved-last}
+use Rattle.dense_order.proofs.Counting.{count-placed, stored-tree, resolved-some, resolved-last}
 use Rattle.dense_order.proofs.order.resolve.Statement.{statement}
 use Rattle.dense_order.proofs.order.resolve.Tie as tie
 use denote.Ref.{now}
@@ -15,7 +15,7 @@ returns c =
 put-requires : tie.Need-put-requires
 put-requires c κs =
     let b = c .before .before .before .before in
-    ((b .pre .0 .0, omega arith), (stored-tree (now (b .args .work)) (b .args .n) (b .args .p) (b .pre .0 .0) (b .pre .1 .0) (b .pre .1 .1)) .0)
+    (b .pre .0 .0, (stored-tree (now (b .args .work)) (b .args .n) (b .args .p) (b .pre .0 .0) (b .pre .1 .0) (b .pre .1 .1)) .0)
 
 same-length-2 : tie.Need-same-length-2
 same-length-2 c = c .before .before .put .kept .0 ∙ simp length-set
@@ -32,12 +32,12 @@ resolve-spec =
     (λ c. search needs)
     (λ c. search needs)
     (λ c. search needs)
+    (λ c. let b = c .before .before in count-placed (now (b .args .work)) (b .args .n) (b .args .p) (b .pre .0 .0) (b .pre .1 .0) (b .pre .1 .1))
     (λ c. search needs)
     (λ c. search needs)
     (λ c. search needs)
     (λ c. search needs)
-    (λ c. search needs)
-    (λ c. search needs)
+    (λ c. let b = c .before .before in count-placed (now (b .args .work)) (b .args .n) (b .args .p) (b .pre .0 .0) (b .pre .1 .0) (b .pre .1 .1))
     (λ c. search needs)
     returns
     (λ c. search needs)
