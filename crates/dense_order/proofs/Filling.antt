@@ -8,6 +8,7 @@ use native.Mathlib.Numerals.{add-one}
 use lib.ListN.{length, take, drop, getD, set, length-append, length-take, length-drop, length-map, drop-of-length-le}
 use lib.Seq.{take-all, take-suc, drop-cons, set-at, getD-at, append-snoc, getD-take, length-take-le}
 use Rattle.record.specs.Lists.{run}
+use Rattle.sorting.proofs.Uses.{run-at}
 use Rattle.record.specs.Node.{children, renumber}
 use Rattle.record.specs.declared.Node.{Node}
 use Rattle.claims.specs.Searches.{getD-mem}
@@ -53,12 +54,6 @@ module _ {f : ℕ → ℕ} {xs out₀ out : List ℕ} {i : ℕ} (r : Filled f xs
   filled-end h = let a = r .room in let l : length out₀ ≤ i = omega arith in rw (r .held, take-all i xs h, drop-of-length-le out₀ l, append-nil)
 
 -- THE NUMBERS FROM 0 ON ---------------------------------------------------------------------------
-
-run-at : (a n i : ℕ) → i < n → getD (run a n) i 0 ≡ a + i
-unfolding run
-run-at a zero i h = absurd (omega arith)
-run-at a (suc n) zero h = omega arith
-run-at a (suc n) (suc i) h = let e = run-at (suc a) n i (omega arith) in omega arith
 
 pub ids-at : (n i : ℕ) → i < n → getD (run 0 n) i 0 ≡ i
 ids-at n i h = let e = run-at 0 n i h in omega arith

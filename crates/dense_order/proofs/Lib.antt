@@ -23,3 +23,4 @@ pub mod Fairness
 pub mod Arranging
 pub mod Delivering
 pub mod Answering
+pub mod Keeping

@@ -1,6 +1,6 @@
 -- Listing the ids of one kind, and what the order holds before any internal.
 -- Assumes nothing: these are definitions.
-use Prim.Native.Nat.{ℕ, _+_, _*_, _/_, _<_, _≤_}
+use Prim.Native.Nat.{ℕ, suc, _+_, _*_, _/_, _<_, _≤_}
 use mathlib.Core.Path.{_≡_}
 use mathlib.Core.List.{List}
 use mathlib.Core.Option.{none}
@@ -12,7 +12,7 @@ use Rattle.forest.specs.Lent.{workWords, most}
 use Rattle.forest.specs.Lists.{keep}
 use Rattle.forest.specs.Order.{externals, order, unreleased}
 use Rattle.room.specs.Places.{placeOf}
-use Rattle.room.specs.Sections.{span, Puts}
+use Rattle.room.specs.Sections.{span, Out, Puts}
 use Rattle.room.specs.declared.Place.{Place}
 use Rattle.dense_order.specs.Marks.{markOf}
 
@@ -44,6 +44,12 @@ pub record Externals (s w : List ℕ) (n r : ℕ) : Type 0 where
   pub some : r ≤ n
   pub first : span w 0 r ≡ externals (nodesOf s)
   pub zeros : (y : ℕ) → r ≤ y → getD w y 0 ≡ 0
+
+-- w′ is w with the first k of n ids in their own order and marked: nothing else has changed
+pub record Kept (w w′ : List ℕ) (n k : ℕ) : Type 0 where
+  pub own : (p : ℕ) → p < k → getD w′ p 0 ≡ p
+  pub marks : (p : ℕ) → p < k → getD w′ (n + p) 0 ≡ suc p
+  pub rest : (y : ℕ) → Out y 0 k → Out y n k → getD w′ y 0 ≡ getD w y 0
 
 -- the answer names the lowest id that is never released; if there is none, the order is whole and each id's place is marked
 pub record Ordered (s w : List ℕ) (n : ℕ) (r : Place) : Type 0 where

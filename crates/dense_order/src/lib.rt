@@ -211,7 +211,7 @@ fn sizes(
 }
 
 // Arranges a forest in a room of zeros, unless two externals have one digest, a child is past the end, or an internal is never released.
-fn arranged(nodes: &[u8], work: &mut [u32], n: usize) -> Check
+fn rearranged(nodes: &[u8], work: &mut [u32], n: usize) -> Check
     requires { ⌜ Blank (now nodes) (now work) n ⌝ }
     requires { ⌜ badRecord (now nodes) ≡ none ⌝ }
     ensures { λ r. ⌜ Answers (disorders (nodesOf (now (nodes .entry)))) (now (nodes .entry)) (now (work .exit)) n r ⌝ }
@@ -226,6 +226,20 @@ fn arranged(nodes: &[u8], work: &mut [u32], n: usize) -> Check
     if let Place::At(p) = order::final_dense_node_order(nodes, work, n, externals) {
         return Check::Refused(Reply::Cycle(p as u64));
     }
+    Check::Passed
+}
+
+// Arranges a forest in a room of zeros as `rearranged` does: one in dense order stays as it is.
+fn arranged(nodes: &[u8], work: &mut [u32], n: usize) -> Check
+    requires { ⌜ Blank (now nodes) (now work) n ⌝ }
+    requires { ⌜ badRecord (now nodes) ≡ none ⌝ }
+    ensures { λ r. ⌜ Answers (disorders (nodesOf (now (nodes .entry)))) (now (nodes .entry)) (now (work .exit)) n r ⌝ }
+{
+    let order = validate_dense_node_order(nodes);
+    let Check::Passed = order else {
+        return rearranged(nodes, work, n);
+    };
+    order::keep_order(work, n);
     Check::Passed
 }
 

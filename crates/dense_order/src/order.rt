@@ -8,7 +8,7 @@ ghost use Rattle.forest.specs.Order.{ready};
 ghost use Rattle.forest.specs.Lent.{workWords, most};
 ghost use Rattle.room.specs.Sections.{span};
 ghost use Rattle.ready.specs.Tree.{Tree};
-ghost use Rattle.dense_order.specs.Kinds.{Space, Kinds, Blank, Externals, Ordered};
+ghost use Rattle.dense_order.specs.Kinds.{Space, Kinds, Blank, Externals, Kept, Ordered};
 ghost use Rattle.dense_order.specs.State.{Fair, countsAt, readyAt, Standing, Resolved, Settles, Appends, Begun, Released, Enlisted, Links, Enlists, Fresh, Opened};
 use crate::BLOCK;
 use crate::EXTERNAL;
@@ -196,6 +196,19 @@ fn finish(nodes: &[u8], work: &mut [u32], n: usize, begun: usize) -> Place
     let filled = release(nodes, work, n, begun);
     deliver::mark_places(work, n, filled);
     deliver::first_unplaced(work, n)
+}
+
+// Puts the n ids into their own order and marks the place of each; leaves every other word alone.
+pub(crate) fn keep_order(work: &mut [u32], n: usize)
+    requires { ⌜ (2 * n ≤ length (now work)) × (n ≤ most) ⌝ }
+    ensures { λ _. ⌜ Kept (now (work .entry)) (now (work .exit)) n n ⌝ }
+{
+    let mut p = 0;
+    while p < n {
+        work[p] = p as u32;
+        work[n + p] = (p + 1) as u32;
+        p += 1;
+    }
 }
 
 // Puts blocks and internals behind the externals; answers the lowest id that is never released.
