@@ -9,8 +9,11 @@ mod word;
 pub use word::Word;
 
 pub mod case;
+#[cfg(feature = "ours")]
+pub mod compare;
 pub mod doc01;
 pub mod engine;
+pub mod front;
 pub mod guard;
 pub mod list;
 #[cfg(feature = "ours")]

@@ -14,8 +14,8 @@ pub fn run(case: &Case, room: &mut Room) -> Reply {
     let roots = root_words(case);
     match case.op {
         Op::Validate => raw::validate(&case.nodes),
-        Op::Canonicalize => raw::canonicalize(&case.nodes, &roots, room),
-        Op::CanonicalizeParts => unreachable!("our library has no such call"),
+        // Ours has one such call, whichever of the Rust's two it is held against.
+        Op::Canonicalize | Op::CanonicalizeParts => raw::canonicalize(&case.nodes, &roots, room),
         Op::Merge => {
             let limit = u32::try_from(case.limit).unwrap_or(u32::MAX);
             raw::merge(&case.table, &case.nodes, &roots, limit, room)

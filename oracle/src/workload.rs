@@ -8,7 +8,7 @@
 
 use std::collections::HashMap;
 
-use crate::{Word, case::Rec, random::Rng};
+use crate::{Word, case::Rec, front::Forest, random::Rng};
 
 fn mix(seed: u64, parts: &[u64]) -> [u64; 4] {
     let mut out = [0; 4];
@@ -92,8 +92,6 @@ fn universe(size: usize, module: usize, r: &mut Rng) -> Vec<U> {
     }
     u
 }
-
-pub type Forest = (Vec<Rec>, Vec<u32>);
 
 struct Maker<'a> {
     u: &'a [U],

@@ -7,9 +7,12 @@ use std::{
     process::exit,
 };
 
-use oracle::list::{
-    answer::{Mark, SAID, answer},
-    plan::{Group, all},
+use oracle::{
+    engine,
+    list::{
+        answer::{Mark, SAID, answer},
+        plan::{Group, all},
+    },
 };
 
 /// The crate `cases` takes fewer bytes than this.
@@ -95,6 +98,7 @@ fn main() {
         eprintln!("list: needs the folder to write stdin and stdout to");
         exit(2);
     };
+    engine::quiet_panics();
     let done = List::whole(&all()).and_then(|list| {
         list.write(Path::new(&folder)).map_err(|e| format!("{folder}: {e}"))?;
         Ok(list)

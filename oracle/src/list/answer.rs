@@ -3,7 +3,9 @@
 use super::entry::Entry;
 use crate::{
     case::{Case, Op, Out, Reply},
-    doc01, guard,
+    doc01,
+    front::{Forest, Lengths, front},
+    guard::{self, Ran},
 };
 
 /// Digest words of the Rust are elements of a field: all are below this number.
@@ -11,7 +13,8 @@ const FIELD: u64 = 0xFFFF_FFFF_0000_0001;
 /// No case of the list has as many nodes, so under this limit none is too deep.
 const NO_LIMIT: u64 = 4096;
 const MOST_FORESTS: usize = 1024;
-const WORK_WORDS: usize = 16;
+/// The numbers that the front can answer, as words.
+const FRONT: [&str; 14] = ["0", "1", "2", "3", "", "", "", "", "", "", "", "", "", "13"];
 
 /// Whose an answer is; `SAID` says what each mark means.
 pub type Mark = &'static str;
@@ -49,40 +52,32 @@ fn refusal(no: &'static str, first: usize, second: usize) -> Out {
     Out::refuse("doc01", no, Some(first as u64), Some(second as u64))
 }
 
-/// BadBuffers for buffers 4 to 7, of which the bytes of a case say nothing.
-fn wrong_buffer(entry: &Entry, case: &Case) -> Option<usize> {
-    let l = entry.lengths?;
-    let nodes = case.nodes.len() / 48;
-    let outputs = entry.op == Op::Canonicalize;
-    match entry.op {
-        Op::Validate => None,
-        _ if outputs && l[3] != case.nodes.len() => Some(4),
-        _ if outputs && l[4] != case.roots.len() / 4 => Some(5),
-        _ if l[5] != nodes => Some(6),
-        _ if l[6] < WORK_WORDS * nodes => Some(7),
-        _ => None,
-    }
+/// The room that is lent, where the case gives its lengths.
+fn room(entry: &Entry, case: &Case) -> Lengths {
+    let enough = Lengths::enough(case);
+    let given = |l: [usize; 7]| Lengths { nodes: l[3], roots: l[4], ids: l[5], work: l[6] };
+    entry.lengths.map_or(enough, given)
 }
 
-/// Document 01's answer, lengths of buffers 4 to 7 among it; room is not looked at.
+/// Document 01's answer, the lengths of the room among it; whether a result fits is not looked at.
 fn document(entry: &Entry, case: &Case) -> Out {
-    let out = doc01::run(case);
-    if matches!(number(&out), "13" | "2" | "1") {
-        return out;
-    }
-    wrong_buffer(entry, case).map_or(out, |b| refusal("1", b, 0))
+    let Err((no, first, second)) = front(case, &room(entry, case)) else {
+        return doc01::run(case);
+    };
+    Out::refuse("doc01", FRONT[no as usize], Some(first), Some(second))
 }
 
-/// Why no Rust type can be given the case, if so.
+/// Why no Rust type can be given the case, if so: the limit and the number of forests it can be.
 fn foreign(entry: &Entry, case: &Case) -> Option<Mark> {
-    if wrong_buffer(entry, case).is_some() {
+    let plain = Case { limit: NO_LIMIT, ..case.clone() };
+    let many = case.table.len() / 8 > MOST_FORESTS;
+    if !many && front(&plain, &room(entry, case)).is_err() {
         return Some("01 lent");
     }
     let Ok(forests) = case.forests() else {
         return Some("01 lent");
     };
-    let high =
-        |f: &crate::workload::Forest| f.0.iter().any(|n| n.digest.iter().any(|&w| w >= FIELD));
+    let high = |f: &Forest| f.0.iter().any(|n| n.digest.iter().any(|&w| w >= FIELD));
     forests.iter().any(high).then_some("01 word")
 }
 
@@ -131,7 +126,11 @@ pub fn answer(entry: &Entry) -> Result<(Mark, Out), String> {
     if let Some(why) = foreign(entry, &case) {
         return Ok((why, no_room(entry, &said).unwrap_or(said)));
     }
-    let rust = guard::run(&case);
+    let rust = match guard::run_in_child(&case) {
+        Ran::Answer(out) => Some(out),
+        Ran::StackSpent => None,
+        Ran::Died(why) => return Err(format!("{}: {why}", entry.name)),
+    };
     let whose = mark(&case, rust.as_ref(), &said).ok_or_else(|| {
         let told =
             rust.as_ref().map_or("spends its stack".into(), |o| format!("says {}", o.compact()));

@@ -2,7 +2,7 @@
 
 use crate::{
     case::{Case, Op, Out, Rec, Reply},
-    workload::Forest,
+    front::Forest,
 };
 
 /// The limit where a case gives none.
@@ -13,8 +13,6 @@ const FORESTS: usize = 16;
 const WORDS: usize = 288;
 const BYTES: usize = 768;
 const TABLE_BYTES: usize = 8208;
-/// The highest digest word that `cases` reads from a text.
-const MOST_WORD: u64 = 18_446_744_073_709_551_609;
 
 #[derive(Debug, Clone)]
 pub struct Entry {
@@ -126,9 +124,7 @@ impl Entry {
         let roots: usize = self.forests.iter().map(|f| f.1.len()).sum();
         let lengths = self.lengths.unwrap_or([0; 7]);
         let most = [TABLE_BYTES, BYTES, WORDS, BYTES, WORDS, WORDS, WORDS];
-        let readable = |n: &Rec| n.digest.iter().all(|&w| w <= MOST_WORD);
-        self.forests.iter().flat_map(|f| &f.0).all(readable)
-            && nodes <= NODES
+        nodes <= NODES
             && roots < WORDS
             && (1..=FORESTS).contains(&self.forests.len())
             && (0..7).all(|i| lengths[i] <= most[i])
