@@ -171,18 +171,17 @@ pub fn compare(a: [u64; WORDS], b: [u64; WORDS]) -> Order
     Order::Equal
 }
 
-// Whether each child field from `count` on is 0.
+// Whether each child field from `count` on is 0: every field is looked at, so that no branch hangs on the count.
 fn unused_are_zero(kids: [u32; FIELDS], count: u32) -> bool
     ensures { λ r. ⌜ r ≡ all (eqb 0) (drop count kids) ⌝ }
 {
-    let mut i = count as usize;
+    let mut zero = true;
+    let mut i = 0;
     while i < FIELDS {
-        if kids[i] != 0 {
-            return false;
-        }
+        zero = zero & ((i < count as usize) | (kids[i] == 0));
         i += 1;
     }
-    true
+    zero
 }
 
 // Whether a record breaks the rules of its own fields.

@@ -1,48 +1,34 @@
-use mathlib.Core.Path.{_≡_, refl, sym}
-use Prim.Native.Nat.{_-_}
+use mathlib.Core.Bool.{_&&_}
+use mathlib.Core.Path.{_≡_, sym, _∙_}
+use Prim.Native.Nat.{_-_, max}
 use native.Mathlib.Omega.{arith}
-use borrow.Author.Tests.{eq-eqb, ne-eqb}
 use borrow.Author.Needs.{needs}
 use lib.ListN.{length, drop}
 use lib.Dec.{eqb}
-use Rattle.record.proofs.Rules.{all-step, all-end}
 use Rattle.record.specs.Node.{fields}
 use Rattle.record.specs.Lists.{all}
+use Rattle.record.proofs.Rules.{looked-start, looked-on, looked-end}
 use Rattle.record.proofs.unused_are_zero.Statement.{statement}
 use Rattle.record.proofs.unused_are_zero.Tie as tie
 
 abbrev Inv-loop : tie.InvT-loop
-Inv-loop count kids i₀ i = all (eqb 0) (drop count kids) ≡ all (eqb 0) (drop i kids)
+Inv-loop count kids zero₀ i₀ zero i = all (eqb 0) (drop count kids) ≡ (zero && all (eqb 0) (drop (max i count) kids))
 
 abbrev μ-loop : tie.MeasureT-loop
-μ-loop count kids i₀ i = fields - i
+μ-loop count kids zero₀ i₀ zero i = fields - i
 
 kids-length : (c : tie.Start Inv-loop μ-loop) → length (c .args .t1) ≡ fields
 kids-length c = search needs
 
-loop-holds : tie.Need-loop-holds Inv-loop μ-loop
-loop-holds c = refl
+loop-again : tie.Need-loop-again Inv-loop μ-loop
+loop-again c =
+    let n = kids-length (c .before .before) in
+    c .before .loop .inv ∙ looked-on (c .before .before .args .t1) (c .before .before .args .count) (c .before .loop .i) (c .before .loop .zero) (omega arith)
 
 returns : tie.Need-returns Inv-loop μ-loop
 returns c =
-    let a = c .before .before .before .args in
-    let l = c .before .before .loop in
-    let n = kids-length (c .before .before .before) in
-    rw (l .inv, all-step (eqb 0) (a .t1) (l .i) (omega arith), ne-eqb 0 _ (λ z. c .if1 .taken (sym z)))
-
-loop-again : tie.Need-loop-again Inv-loop μ-loop
-loop-again c =
-    let a = c .before .before .before .args in
-    let l = c .before .before .loop in
-    let n = kids-length (c .before .before .before) in
-    rw (l .inv, all-step (eqb 0) (a .t1) (l .i) (omega arith), eq-eqb 0 _ (sym (c .if1 .left)))
-
-returns-2 : tie.Need-returns-2 Inv-loop μ-loop
-returns-2 c =
-    let a = c .before .before .args in
-    let l = c .before .loop in
     let n = kids-length (c .before .before) in
-    rw (l .inv, all-end (eqb 0) (a .t1) (l .i) (omega arith))
+    sym (c .before .loop .inv ∙ looked-end (c .before .before .args .t1) (c .before .before .args .count) (c .before .loop .i) (c .before .loop .zero) (omega arith))
 
 pub unused-are-zero-spec : {M : Type 1} → statement M
 unused-are-zero-spec =
@@ -50,11 +36,10 @@ unused-are-zero-spec =
     (tie.spec
     Inv-loop
     μ-loop
-    loop-holds
+    (λ c. looked-start (eqb 0) (c .args .t1) (c .args .count))
     (λ c. omega arith)
     (λ c. omega arith)
-    returns
     (λ c. omega arith)
     (λ c. omega arith)
     loop-again
-    returns-2)
+    returns)
