@@ -1,6 +1,6 @@
 -- Laws of a loop that writes f of the element at place i of one list to place i of another, and of a node whose children it renumbers.
 -- Assumes nothing.
-use Prim.Native.Nat.{ℕ, zero, suc, _+_, _<_, _≤_}
+use Prim.Native.Nat.{ℕ, zero, suc, _+_, _-_, _<_, _≤_}
 use mathlib.Core.Path.{_≡_, refl, sym, _∙_, ap}
 use mathlib.Core.List.{List, [], _∷_, _++_, map, map-append, append-nil, List·Memᴰ}
 use native.Mathlib.Omega.{arith}
@@ -58,19 +58,37 @@ module _ {f : ℕ → ℕ} {xs out₀ out : List ℕ} {i : ℕ} (r : Filled f xs
 pub ids-at : (n i : ℕ) → i < n → getD (run 0 n) i 0 ≡ i
 ids-at n i h = let e = run-at 0 n i h in omega arith
 
--- IN PLACE ----------------------------------------------------------------------------------------
+-- A NODE'S CHILDREN IN PLACE ---------------------------------------------------------------------
 
-pub filled-again : {f : ℕ → ℕ} {xs out : List ℕ} {i y : ℕ} → Filled f xs xs out i → i < length xs → y ≡ f (getD out i 0) → Filled f xs xs (set out i y) (i + 1)
-filled-again {f} r h e = filled-step r h (e ∙ ap f (filled-here r h))
+-- kids are the node's, with f of each child among the first i
+pub record Renumbering (f : ℕ → ℕ) (n : Node) (kids : List ℕ) (i : ℕ) : Type 0 where
+  pub filled : Filled f (n .kids) (n .kids) kids (n .count - (n .count - i))
 
--- the children of a node: those that are still to be renumbered are as they were
-module _ {f : ℕ → ℕ} (n : Node) {kids : List ℕ} {i : ℕ} (r : Filled f (n .kids) (n .kids) kids i) where
-  pub child-here : (P : ℕ → Type 0) → i < n .count → n .count ≤ length (n .kids) → ((c : ℕ) → List·Memᴰ c (children n) → P c) → P (getD kids i 0)
-  unfolding children
-  child-here P h k p =
-      let e : getD (take (n .count) (n .kids)) i 0 ≡ getD kids i 0 = getD-take (n .count) (n .kids) i 0 h ∙ sym (filled-here r (omega arith)) in
-      rw (← e) (p _ (getD-mem (take (n .count) (n .kids)) i 0 (omega (arith, length-take (n .count) (n .kids)))))
+pub renumbering-start : (f : ℕ → ℕ) (n : Node) → Renumbering f n (n .kids) 0
+renumbering-start f n = let e : n .count - (n .count - 0) ≡ 0 = omega arith in record { filled = rw e (filled-start f (n .kids) (n .kids) refl) }
 
-  pub renumbered-is : i ≡ n .count → _≡_ {A = Node} (record { kind = n .kind; count = n .count; kids = kids; digest = n .digest }) (renumber f n)
-  unfolding renumber children
-  renumbered-is e = rw (r .held, e)
+module _ {f : ℕ → ℕ} {n : Node} {kids : List ℕ} {i : ℕ} (r : Renumbering f n kids i) where
+  module _ (h : i < n .count) (k : n .count ≤ length (n .kids)) where
+    before : Filled f (n .kids) (n .kids) kids i
+    before = let e : n .count - (n .count - i) ≡ i = omega arith in rw e at (r .filled)
+
+    -- a child that is still to be renumbered is as it was
+    pub child-here : (P : ℕ → Type 0) → ((c : ℕ) → List·Memᴰ c (children n) → P c) → P (getD kids i 0)
+    unfolding children
+    child-here P p =
+        let e : getD (take (n .count) (n .kids)) i 0 ≡ getD kids i 0 = getD-take (n .count) (n .kids) i 0 h ∙ sym (filled-here before (omega arith)) in
+        rw (← e) (p _ (getD-mem (take (n .count) (n .kids)) i 0 (omega (arith, length-take (n .count) (n .kids)))))
+
+    pub renumbering-step : {y : ℕ} → y ≡ f (getD kids i 0) → Renumbering f n (set kids i y) (i + 1)
+    renumbering-step e =
+        let q : n .count - (n .count - (i + 1)) ≡ i + 1 = omega arith in
+        record { filled = rw q (filled-step before (omega arith) (e ∙ ap f (filled-here before (omega arith)))) }
+
+  module _ (h : n .count ≤ i) where
+    -- what is no child stays
+    pub renumbering-skip : Renumbering f n kids (i + 1)
+    renumbering-skip = let e : n .count - (n .count - (i + 1)) ≡ n .count - (n .count - i) = omega arith in record { filled = rw e (r .filled) }
+
+    pub renumbered-is : _≡_ {A = Node} (record { kind = n .kind; count = n .count; kids = kids; digest = n .digest }) (renumber f n)
+    unfolding renumber children
+    renumbered-is = let e : n .count - (n .count - i) ≡ n .count = omega arith in rw (r .filled .held, e)

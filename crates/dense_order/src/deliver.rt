@@ -12,6 +12,7 @@ ghost use Rattle.room.specs.Sections.{span};
 ghost use Rattle.room.specs.Places.{placeOf};
 ghost use Rattle.dense_order.specs.Marks.{newId, Placed, Unmarked, Marked, Writable};
 ghost use Rattle.dense_order.specs.Steps.{Deliverable, Delivered};
+use record::FIELDS;
 use record::Node;
 use room::Place;
 
@@ -62,8 +63,10 @@ fn renumbered(node: Node, work: &[u32], n: usize) -> Node
     let mut kids = node.kids;
     let digest = node.digest;
     let mut i = 0;
-    while i < count {
-        kids[i] = new_id(work, n, kids[i] as usize);
+    while i < FIELDS {
+        if i < count {
+            kids[i] = new_id(work, n, kids[i] as usize);
+        }
         i += 1;
     }
     Node {

@@ -13,6 +13,7 @@ ghost use Rattle.merger.specs.Sections.{sourcesAt};
 ghost use Rattle.merger.specs.Walking.{Roomy, Readable, mergedAt, Pushing, Pushable, Came};
 use crate::BASES;
 use crate::SOURCES;
+use record::FIELDS;
 use record::Node;
 use room::Place;
 
@@ -28,8 +29,10 @@ pub(crate) fn merged_node(nodes: &[u8], work: &[u32], n: usize, p: usize) -> Nod
     let mut kids = node.kids;
     let digest = node.digest;
     let mut i = 0;
-    while i < count {
-        kids[i] = work[base + kids[i] as usize] - 2;
+    while i < FIELDS {
+        if i < count {
+            kids[i] = work[base + kids[i] as usize] - 2;
+        }
         i += 1;
     }
     Node {
@@ -52,8 +55,8 @@ fn same_children(a: Node, b: Node) -> bool
     let right = b.kids;
     let count = a.count as usize;
     let mut i = 0;
-    while i < count {
-        if left[i] != right[i] {
+    while i < FIELDS {
+        if (i < count) & (left[i] != right[i]) {
             return false;
         }
         i += 1;

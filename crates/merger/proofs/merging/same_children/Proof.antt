@@ -12,7 +12,7 @@ abbrev Inv-loop : tie.InvT-loop
 Inv-loop left right count i₀ i = Matching left right count i
 
 abbrev μ-loop : tie.MeasureT-loop
-μ-loop left right count i₀ i = count - i
+μ-loop left right count i₀ i = fields - i
 
 returns : tie.Need-returns Inv-loop μ-loop
 returns c =
@@ -25,36 +25,26 @@ loop-holds : tie.Need-loop-holds Inv-loop μ-loop
 loop-holds c =
     matching-start _ _ _
 
-array-read-if2 : tie.Need-array-read-if2 Inv-loop μ-loop
-array-read-if2 c =
-    let b = c .before .before .before .before .before .before .before .before in
-    omega (arith, c .loop-test .taken, b .pre .0)
-
-array-read-if2-2 : tie.Need-array-read-if2-2 Inv-loop μ-loop
-array-read-if2-2 c =
-    let b = c .before .before .before .before .before .before .before .before in
-    omega (arith, c .loop-test .taken, b .pre .0)
-
 returns-2 : tie.Need-returns-2 Inv-loop μ-loop
 returns-2 c =
     let b = c .before .before .before .before .before .before .before .before .before in
     let x : length (b .args .a .kids) ≡ fields = search needs in
     let y : length (b .args .b .kids) ≡ fields = search needs in
-    matching-fails (c .before .before .loop .inv) (omega (arith, b .pre .0, x)) (omega (arith, b .pre .0, y)) (c .before .loop-test .taken) (c .if2 .taken) ∙ alike-counts (b .args .a) (b .args .b) (c .before .before .before .before .before .before .if1 .left)
+    matching-fails (c .before .before .loop .inv) (omega (arith, b .pre .0, x)) (omega (arith, b .pre .0, y)) (c .if2 .taken) ∙ alike-counts (b .args .a) (b .args .b) (c .before .before .before .before .before .before .if1 .left)
 
 loop-again : tie.Need-loop-again Inv-loop μ-loop
 loop-again c =
     let b = c .before .before .before .before .before .before .before .before .before in
     let x : length (b .args .a .kids) ≡ fields = search needs in
     let y : length (b .args .b .kids) ≡ fields = search needs in
-    matching-step (c .before .before .loop .inv) (omega (arith, b .pre .0, x)) (omega (arith, b .pre .0, y)) (c .before .loop-test .taken) (c .if2 .left)
+    matching-step (c .before .before .loop .inv) (omega (arith, b .pre .0, x)) (omega (arith, b .pre .0, y)) (c .if2 .left)
 
 returns-3 : tie.Need-returns-3 Inv-loop μ-loop
 returns-3 c =
     let b = c .before .before .before .before .before .before .before .before in
     let x : length (b .args .a .kids) ≡ fields = search needs in
     let y : length (b .args .b .kids) ≡ fields = search needs in
-    matching-ends (c .before .loop .inv) (omega (arith, b .pre .0, x)) (omega (arith, b .pre .0, y)) (c .loop-test .left) ∙ alike-counts (b .args .a) (b .args .b) (c .before .before .before .before .before .if1 .left)
+    matching-ends (c .before .loop .inv) (omega (arith, b .pre .0, x)) (omega (arith, b .pre .0, y)) (omega (arith, b .pre .0, c .loop-test .left)) ∙ alike-counts (b .args .a) (b .args .b) (c .before .before .before .before .before .if1 .left)
 
 pub same-children-spec : {M : Type 1} → statement M
 same-children-spec =
@@ -66,11 +56,11 @@ same-children-spec =
     (λ c. search needs)
     loop-holds
     (λ c. search needs)
-    array-read-if2
+    (λ c. omega (arith, c .loop-test .taken))
     (λ c. search needs)
-    array-read-if2-2
+    (λ c. omega (arith, c .loop-test .taken))
     returns-2
     (λ c. search needs)
-    (λ c. search needs)
+    (λ c. omega (arith, c .before .loop-test .taken))
     loop-again
     returns-3)
