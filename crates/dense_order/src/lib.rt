@@ -1,10 +1,13 @@
 // Validate and Canonicalize: whether a forest's nodes stand in dense order, and putting them into it.
 ghost use mathlib.Core.Path.{_≡_};
-ghost use mathlib.Core.List.{[]};
-ghost use mathlib.Core.Option.{none};
-ghost use lib.Dec.{leb};
+ghost use mathlib.Core.Bool.{not, _||_};
+ghost use mathlib.Core.List.{[], _∷_};
+ghost use mathlib.Core.Option.{none, some};
+ghost use Prim.Native.Nat.{_+_, _-_, _*_, _≤_};
+ghost use lib.Dec.{leb, eqb};
+ghost use lib.ListN.{length};
 ghost use Rattle.record.specs.Order.{before};
-ghost use Rattle.record.specs.Node.{nodesOf, bad, children, class, rank};
+ghost use Rattle.record.specs.Node.{size, nodeAt, nodesOf, bad, children};
 ghost use Rattle.forest.specs.Lists.{lowest, lastOf};
 ghost use Rattle.forest.specs.Lent.{first};
 ghost use Rattle.forest.specs.Validate.{badRecord, forward as forwardOf, fault as faultOf, nodeFaults, validate as validated};
@@ -85,18 +88,17 @@ pub fn last_from(n: Node, low: usize) -> Kid
     Kid::Childless
 }
 
-// The class of a node, as a number in the order of the classes.
-fn order_class(n: Node) -> u32
-    ensures { λ r. ⌜ r ≡ rank (class n) ⌝ }
+// Whether record `i` is no external, or has a digest above that of the record before it.
+fn digest_rises(nodes: &[u8], i: usize, kind: u32) -> bool
+    requires { ⌜ (1 ≤ i) × (size * i + size ≤ length (now nodes)) ⌝ }
+    ensures { λ r. ⌜ r ≡ (not (eqb kind 0) || before ((nodeAt (now (nodes .entry)) (i - 1)) .digest) ((nodeAt (now (nodes .entry)) i) .digest)) ⌝ }
 {
-    if n.kind < INTERNAL { n.kind } else { INTERNAL }
-}
-
-// Whether one digest goes before another.
-fn goes_before(a: [u64; record::WORDS], b: [u64; record::WORDS]) -> bool
-    ensures { λ r. ⌜ r ≡ before a b ⌝ }
-{
-    let order = record::compare(a, b);
+    if kind != EXTERNAL {
+        return true;
+    }
+    let previous_digest = record::digest_at(nodes, i - 1);
+    let digest = record::digest_at(nodes, i);
+    let order = record::compare(previous_digest, digest);
     match order {
         Order::Less => true,
         Order::Equal => false,
@@ -104,10 +106,12 @@ fn goes_before(a: [u64; record::WORDS], b: [u64; record::WORDS]) -> bool
     }
 }
 
-// Refuses node `i` for its last child that is not below it.
-fn forward(i: usize, node: Node) -> Check
-    ensures { λ r. ⌜ r ≡ checkOf (forwardOf i node) ⌝ }
+// Refuses record `i` for its last child that is not below it.
+fn forward(nodes: &[u8], i: usize) -> Check
+    requires { ⌜ size * i + size ≤ length (now nodes) ⌝ }
+    ensures { λ r. ⌜ r ≡ checkOf (forwardOf i (nodeAt (now (nodes .entry)) i)) ⌝ }
 {
+    let node = record::node_at(nodes, i);
     let forward_child = last_from(node, i);
     match forward_child {
         Kid::Child(child) => Check::Refused(Reply::ForwardReference(i as u64, child as u64)),
@@ -115,22 +119,21 @@ fn forward(i: usize, node: Node) -> Check
     }
 }
 
-// Refuses node `i` for what is wrong with it first, after the node before it.
-fn fault(i: usize, previous: Node, node: Node) -> Check
-    ensures { λ r. ⌜ r ≡ checkOf (faultOf i previous node) ⌝ }
+// Refuses record `i` for what is wrong with it first, after the record before it.
+fn fault(nodes: &[u8], i: usize) -> Check
+    requires { ⌜ (1 ≤ i) × (size * i + size ≤ length (now nodes)) ⌝ }
+    ensures { λ r. ⌜ r ≡ checkOf (faultOf i (nodeAt (now (nodes .entry)) (i - 1)) (nodeAt (now (nodes .entry)) i)) ⌝ }
 {
-    let previous_class = order_class(previous);
-    let node_class = order_class(node);
-    if node_class < previous_class {
+    let previous_kind = record::kind_at(nodes, i - 1);
+    let kind = record::kind_at(nodes, i);
+    // The kinds tell how the classes stand, but for two internals.
+    if (kind < INTERNAL) & (kind < previous_kind) {
         return Check::Refused(Reply::ClassOrder(i as u64));
     }
-    let previous_digest = previous.digest;
-    let digest = node.digest;
-    let increasing = goes_before(previous_digest, digest);
-    if (node_class == EXTERNAL) & ((previous_class == EXTERNAL) & !increasing) {
+    if !digest_rises(nodes, i, kind) {
         return Check::Refused(Reply::DigestOrder(i as u64));
     }
-    forward(i, node)
+    forward(nodes, i)
 }
 
 // Refuses the first of the whole records that is not in dense order.
@@ -141,17 +144,51 @@ fn validate_dense_node_order(nodes: &[u8]) -> Check
     if n == 0 {
         return Check::Passed;
     }
-    let mut previous = record::node_at(nodes, 0);
-    if let Check::Refused(reply) = forward(0, previous) {
+    if let Check::Refused(reply) = forward(nodes, 0) {
         return Check::Refused(reply);
     }
     let mut i = 1;
     while i < n {
-        let node = record::node_at(nodes, i);
-        if let Check::Refused(reply) = fault(i, previous, node) {
+        if let Check::Refused(reply) = fault(nodes, i) {
             return Check::Refused(reply);
         }
-        previous = node;
+        i += 1;
+    }
+    Check::Passed
+}
+
+// Refuses the lowest bad record, which goes before whatever else was found, or else with `reply`.
+fn bad_first(nodes: &[u8], reply: Reply) -> Check
+    ensures { λ r. ⌜ r ≡ checkOf (first (badRecord (now (nodes .entry)) ∷ some reply ∷ [])) ⌝ }
+{
+    if let Place::At(lowest) = first_bad(nodes) {
+        return Check::Refused(Reply::BadRecord(lowest as u64));
+    }
+    Check::Refused(reply)
+}
+
+// Refuses the lowest bad record, or else the first of the whole records that is not in dense order: in one pass, if none is refused.
+fn validate_records(nodes: &[u8]) -> Check
+    ensures { λ r. ⌜ r ≡ checkOf (first (badRecord (now (nodes .entry)) ∷ nodeFaults (nodesOf (now (nodes .entry))))) ⌝ }
+{
+    let n = nodes.len() / record::SIZE;
+    if n == 0 {
+        return Check::Passed;
+    }
+    if let Check::Refused(reply) = forward(nodes, 0) {
+        return bad_first(nodes, reply);
+    }
+    if record::bad(record::node_at(nodes, 0)) {
+        return Check::Refused(Reply::BadRecord(0));
+    }
+    let mut i = 1;
+    while i < n {
+        if record::bad(record::node_at(nodes, i)) {
+            return Check::Refused(Reply::BadRecord(i as u64));
+        }
+        if let Check::Refused(reply) = fault(nodes, i) {
+            return bad_first(nodes, reply);
+        }
         i += 1;
     }
     Check::Passed
@@ -168,10 +205,7 @@ pub fn validate(nodes: &[u8]) -> Reply
     if nodes.len() % record::SIZE != 0 {
         return Reply::BadBuffers(2);
     }
-    if let Place::At(i) = first_bad(nodes) {
-        return Reply::BadRecord(i as u64);
-    }
-    if let Check::Refused(reply) = validate_dense_node_order(nodes) {
+    if let Check::Refused(reply) = validate_records(nodes) {
         return reply;
     }
     Reply::Accepted(n as u64, 0)

@@ -7,20 +7,27 @@ use Rattle.dense_order.proofs.forward.Tie as tie
 
 returns : tie.Need-returns
 returns c =
-    let a = c .before .before .before .before .args in
+    let a = c .before .before .before .before .before .before .args in
     let k = c .before .before .before .last-from in
     let child = c .before .forward-child .given .0 .0 in
     let e : k .result ≡ Child child = search needs in
-    forward-child (a .i) (a .node) child (sym (k .ensures) ∙ e)
+    forward-child (a .i) (c .before .before .before .before .node-at .ensures) child (sym (k .ensures) ∙ e)
 
 returns-2 : tie.Need-returns-2
 returns-2 c =
-    let a = c .before .before .before .args in
+    let a = c .before .before .before .before .before .args in
     let k = c .before .before .last-from in
     let e : k .result ≡ Childless = search needs in
-    forward-none (a .i) (a .node) (sym (k .ensures) ∙ e)
+    forward-none (a .i) (c .before .before .before .node-at .ensures) (sym (k .ensures) ∙ e)
 
 pub forward-spec : {M : Type 1} → statement M
 forward-spec =
     tie.close
-    (tie.spec (λ c κs. search needs) (λ c. search needs) (λ c. search needs) (λ c. search needs) returns returns-2)
+    (tie.spec
+    (λ c κs. search needs)
+    (λ c κs. search needs)
+    (λ c. search needs)
+    (λ c. search needs)
+    (λ c. search needs)
+    returns
+    returns-2)

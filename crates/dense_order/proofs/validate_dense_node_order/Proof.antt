@@ -8,50 +8,49 @@ use Rattle.dense_order.proofs.validate_dense_node_order.Statement.{stat
 use Rattle.dense_order.proofs.validate_dense_node_order.Tie as tie
 
 abbrev Inv-loop : tie.InvT-loop
-Inv-loop nodes n previous₀ i₀ previous i = Ordered nodes i previous
+Inv-loop nodes n i₀ i = Ordered nodes i
 
 abbrev μ-loop : tie.MeasureT-loop
-μ-loop nodes n previous₀ i₀ previous i = n - i
+μ-loop nodes n i₀ i = n - i
 
 returns : tie.Need-returns Inv-loop μ-loop
 returns c = none-ordered (c .before .before .args .nodes .now) (omega arith)
 
 returns-2 : tie.Need-returns-2 Inv-loop μ-loop
 returns-2 c =
-    let s = c .before .before .before .before .before .before .before .args .nodes .now in
     let f = c .before .before .before .forward in
     let reply = c .before .reply .given .0 .0 in
     let e : f .result ≡ Refused reply = search needs in
-    first-refused s _ (c .before .before .before .before .node-at .ensures) (omega arith) reply (sym (f .ensures) ∙ e)
+    first-refused (c .before .before .before .before .before .before .args .nodes .now) (omega arith) reply (sym (f .ensures) ∙ e)
 
 loop-holds : tie.Need-loop-holds Inv-loop μ-loop
 loop-holds c =
-    let s = c .before .before .before .before .before .before .args .nodes .now in
     let f = c .before .before .forward in
     let e : f .result ≡ Passed = search needs in
-    first-ordered s _ (c .before .before .before .node-at .ensures) (omega arith) (sym (f .ensures) ∙ e)
+    first-ordered (c .before .before .before .before .before .args .nodes .now) (omega arith) (sym (f .ensures) ∙ e)
+
+fault-requires : tie.Need-fault-requires Inv-loop μ-loop
+fault-requires c κs = (c .before .loop .inv .some, omega arith)
 
 returns-3 : tie.Need-returns-3 Inv-loop μ-loop
 returns-3 c =
-    let s = c .before .before .before .before .before .before .before .before .before .before .before .before .before .args .nodes .now in
-    let l = c .before .before .before .before .before .before .loop in
+    let l = c .before .before .before .before .before .loop in
     let f = c .before .before .before .fault in
     let reply = c .before .reply2 .given .0 .0 in
     let e : f .result ≡ Refused reply = search needs in
-    next-refused s (l .i) (l .previous) (l .inv) _ (c .before .before .before .before .node-at2 .ensures) (c .before .before .before .before .before .loop-test .taken) reply (sym (f .ensures) ∙ e)
+    next-refused (c .before .before .before .before .before .before .before .before .before .before .before .args .nodes .now) (l .i) (l .inv) (c .before .before .before .before .loop-test .taken) reply (sym (f .ensures) ∙ e)
 
 loop-again : tie.Need-loop-again Inv-loop μ-loop
 loop-again c =
-    let s = c .before .before .before .before .before .before .before .before .before .before .before .before .args .nodes .now in
-    let l = c .before .before .before .before .before .loop in
+    let l = c .before .before .before .before .loop in
     let f = c .before .before .fault in
     let e : f .result ≡ Passed = search needs in
-    next-ordered s (l .i) (l .previous) (l .inv) _ (c .before .before .before .node-at2 .ensures) (c .before .before .before .before .loop-test .taken) (sym (f .ensures) ∙ e)
+    next-ordered (c .before .before .before .before .before .before .before .before .before .before .args .nodes .now) (l .i) (l .inv) (c .before .before .before .loop-test .taken) (sym (f .ensures) ∙ e)
 
 returns-4 : tie.Need-returns-4 Inv-loop μ-loop
 returns-4 c =
     let l = c .before .loop in
-    all-ordered (c .before .before .before .before .before .before .before .before .args .nodes .now) (l .i) (l .previous) (l .inv) (c .loop-test .left)
+    all-ordered (c .before .before .before .before .before .before .before .args .nodes .now) (l .i) (l .inv) (c .loop-test .left)
 
 pub validate-dense-node-order-spec : {M : Type 1} → statement M
 validate-dense-node-order-spec =
@@ -61,13 +60,11 @@ validate-dense-node-order-spec =
     μ-loop
     returns
     (λ c κs. omega arith)
-    (λ c κs. search needs)
     (λ c. search needs)
     returns-2
     (λ c. search needs)
     loop-holds
-    (λ c κs. omega arith)
-    (λ c κs. search needs)
+    fault-requires
     (λ c. search needs)
     returns-3
     (λ c. search needs)
