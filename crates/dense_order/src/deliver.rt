@@ -62,6 +62,7 @@ fn renumbered(node: Node, work: &[u32], n: usize) -> Node
     let count = node.count as usize;
     let mut kids = node.kids;
     let digest = node.digest;
+    // Over all fields: a loop of fixed length keeps them in registers.
     let mut i = 0;
     while i < FIELDS {
         if i < count {

@@ -17,7 +17,7 @@ unfoldable pub childId : List ℕ → ℕ → ℕ → ℕ
 childId w b c = getD w (b + c) 0 - 2
 
 module _ {s w : List ℕ} {n p : ℕ} (r : Readable s w n p) (x : Node) (is : x ≡ nodeAt s p) where
-  pub kids-full : length (x .kids) ≡ fields
+  kids-full : length (x .kids) ≡ fields
   kids-full = rw is ((full-read s p) .kids-long)
 
   count-fits : x .count ≤ fields

@@ -28,6 +28,7 @@ pub(crate) fn merged_node(nodes: &[u8], work: &[u32], n: usize, p: usize) -> Nod
     let count = node.count as usize;
     let mut kids = node.kids;
     let digest = node.digest;
+    // Over all fields: a loop of fixed length keeps them in registers.
     let mut i = 0;
     while i < FIELDS {
         if i < count {
@@ -54,6 +55,7 @@ fn same_children(a: Node, b: Node) -> bool
     let left = a.kids;
     let right = b.kids;
     let count = a.count as usize;
+    // Over all fields: a loop of fixed length keeps them in registers.
     let mut i = 0;
     while i < FIELDS {
         if (i < count) & (left[i] != right[i]) {
