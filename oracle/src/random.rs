@@ -1,6 +1,9 @@
 //! The oracle's own: a source of random numbers, and random cases.
 
-use crate::case::{Case, Op, Rec};
+use crate::{
+    case::{Case, Op, Rec},
+    front::Forest,
+};
 
 pub struct Rng(pub u64);
 
@@ -29,6 +32,58 @@ fn digest(r: &mut Rng, spread: u64) -> [u64; 4] {
     d
 }
 
+/// What the forests of a random case have in common.
+struct Manner {
+    /// Children below their own number, all in range.
+    tidy: bool,
+    /// Numbers out of range now and then.
+    wild: bool,
+    spread: u64,
+    size: u64,
+}
+
+/// Node i of n.
+fn node(r: &mut Rng, m: &Manner, i: u64, n: u64) -> Rec {
+    let kind = match r.below(10) {
+        0..=2 => 0,
+        3..=4 => 1,
+        5..=8 => 2,
+        _ => 3 + r.below(3) as u32,
+    };
+    let mut child = [0; 2];
+    let mut count = 0;
+    if kind >= 2 {
+        count = r.below(3) as u32;
+        if m.tidy && i == 0 {
+            count = 0;
+        }
+        for c in child.iter_mut().take(count as usize) {
+            *c = if m.tidy {
+                r.below(i) as u32
+            } else if m.wild && r.chance(1, 8) {
+                (n + r.below(3)) as u32
+            } else {
+                r.below(n) as u32
+            };
+        }
+    }
+    Rec { kind, count, child, digest: digest(r, m.spread) }
+}
+
+fn forest(r: &mut Rng, m: &Manner) -> Forest {
+    let n = r.below(m.size + 1);
+    let recs = (0..n).map(|i| node(r, m, i, n)).collect();
+    let mut roots = vec![];
+    for _ in 0..r.below(5) {
+        if n > 0 && !(m.wild && r.chance(1, 10)) {
+            roots.push(r.below(n) as u32);
+        } else if m.wild {
+            roots.push((n + r.below(3)) as u32);
+        }
+    }
+    (recs, roots)
+}
+
 pub fn random_case(r: &mut Rng, name: String) -> Case {
     let op = match r.below(10) {
         0 => Op::Validate,
@@ -37,51 +92,12 @@ pub fn random_case(r: &mut Rng, name: String) -> Case {
         _ => Op::Merge,
     };
     let nf = if op == Op::Merge { r.below(5) } else { 1 };
-    let tidy = r.chance(2, 3); // children below own number, all in range
-    let wild = r.chance(1, 4); // numbers out of range now and then
+    let tidy = r.chance(2, 3);
+    let wild = r.chance(1, 4);
     let spread = 1 + r.below(12);
     let most = if r.chance(1, 10) { 30 } else { 8 };
-    let size = 1 + r.below(most);
-    let mut fs = vec![];
-    for _ in 0..nf {
-        let n = r.below(size + 1);
-        let mut recs = vec![];
-        for i in 0..n {
-            let kind = match r.below(10) {
-                0..=2 => 0,
-                3..=4 => 1,
-                5..=8 => 2,
-                _ => 3 + r.below(3) as u32,
-            };
-            let mut child = [0; 2];
-            let mut count = 0;
-            if kind >= 2 {
-                count = r.below(3) as u32;
-                if tidy && i == 0 {
-                    count = 0;
-                }
-                for c in child.iter_mut().take(count as usize) {
-                    *c = if tidy {
-                        r.below(i) as u32
-                    } else if wild && r.chance(1, 8) {
-                        (n + r.below(3)) as u32
-                    } else {
-                        r.below(n) as u32
-                    };
-                }
-            }
-            recs.push(Rec { kind, count, child, digest: digest(r, spread) });
-        }
-        let mut roots = vec![];
-        for _ in 0..r.below(5) {
-            if n > 0 && !(wild && r.chance(1, 10)) {
-                roots.push(r.below(n) as u32);
-            } else if wild {
-                roots.push((n + r.below(3)) as u32);
-            }
-        }
-        fs.push((recs, roots));
-    }
+    let manner = Manner { tidy, wild, spread, size: 1 + r.below(most) };
+    let fs: Vec<Forest> = (0..nf).map(|_| forest(r, &manner)).collect();
     let limit = if r.chance(1, 5) { 1 + r.below(6) } else { 4096 };
     Case::from_forests(&name, op, limit, &fs)
 }
