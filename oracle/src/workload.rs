@@ -6,7 +6,7 @@
 //! an external. Modules taken by several forests are the shared duplicates; externals whose node
 //! some forest holds get replaced. Each forest is in dense order (the crate could hold it).
 
-use std::collections::HashMap;
+use std::collections::{HashMap, HashSet};
 
 use crate::{Word, case::Rec, front::Forest, random::Rng};
 
@@ -38,55 +38,56 @@ fn module_size(n: usize) -> usize {
 /// An edge may open two nodes (external and replacement): 2 * 100 < 256.
 const DEPTH: u32 = 100;
 
+/// A child for a node of the module that begins at `start`, by the nodes of it without a parent.
+fn child(u: &[U], start: usize, free: &mut Vec<u32>, first: bool, r: &mut Rng) -> u32 {
+    let mut pick = start + r.below((u.len() - start) as u64) as usize;
+    if start > 0 && r.chance(1, 12) {
+        pick = r.below(start as u64) as usize; // another module
+    } else if !free.is_empty() && r.chance(9, 10) {
+        // The first child often is the newest node (sequences), else any without a parent.
+        let newest = first && r.chance(1, 2);
+        let at = if newest { free.len() - 1 } else { r.below(free.len() as u64) as usize };
+        pick = free[at] as usize;
+    }
+    if u[pick].depth >= DEPTH {
+        pick = start; // a block
+    }
+    if let Some(at) = free.iter().rposition(|&f| f as usize == pick) {
+        free.remove(at);
+    }
+    pick as u32
+}
+
+fn internal(u: &[U], kind: u32, kids: [u32; 2]) -> U {
+    let depth = 1 + kids.iter().map(|&c| u[c as usize].depth).max().unwrap();
+    let mut parts = vec![kind as u64];
+    for &c in &kids {
+        parts.extend(u[c as usize].digest);
+    }
+    U { kind, kids, digest: mix(2, &parts), depth }
+}
+
 fn universe(size: usize, module: usize, r: &mut Rng) -> Vec<U> {
     let mut u: Vec<U> = vec![];
-    let mut made = std::collections::HashSet::new();
+    let mut made = HashSet::new();
     while u.len() < size {
         let start = u.len();
         let len = module.min(size - start).max(1);
         let blocks = (len * 2).div_ceil(5);
-        let mut free: Vec<u32> = vec![]; // nodes of this module without a parent
+        let mut free: Vec<u32> = vec![];
         for k in 0..len {
             let here = u.len();
             if k < blocks {
                 let digest = mix(1, &[here as u64, r.0]);
                 u.push(U { kind: 1, kids: [0; 2], digest, depth: 1 });
-                free.push(here as u32);
-                continue;
-            }
-            let mut kids = [0u32; 2];
-            for (s, slot) in kids.iter_mut().enumerate() {
-                let mut pick = start + r.below((here - start) as u64) as usize;
-                if start > 0 && r.chance(1, 12) {
-                    pick = r.below(start as u64) as usize; // another module
-                } else if !free.is_empty() && r.chance(9, 10) {
-                    // first child often the newest node (sequences), else any without a parent
-                    let at = if s == 0 && r.chance(1, 2) {
-                        free.len() - 1
-                    } else {
-                        r.below(free.len() as u64) as usize
-                    };
-                    pick = free[at] as usize;
+            } else {
+                let kids = [true, false].map(|first| child(&u, start, &mut free, first, r));
+                let mut kind = 2 + r.below(4) as u32;
+                while !made.insert((kind, kids)) {
+                    kind += 1; // one universe node for each structure, so digests differ
                 }
-                if u[pick].depth >= DEPTH {
-                    pick = start; // a block
-                }
-                if let Some(at) = free.iter().rposition(|&f| f as usize == pick) {
-                    free.remove(at);
-                }
-                *slot = pick as u32;
+                u.push(internal(&u, kind, kids));
             }
-            let mut kind = 2 + r.below(4) as u32;
-            while !made.insert((kind, kids)) {
-                kind += 1; // one universe node per structure, so digests differ
-            }
-            let depth = 1 + kids.iter().map(|&c| u[c as usize].depth).max().unwrap();
-            let mut parts = vec![kind as u64];
-            for &c in &kids {
-                parts.extend(u[c as usize].digest);
-            }
-            let digest = mix(2, &parts);
-            u.push(U { kind, kids, digest, depth });
             free.push(here as u32);
         }
     }
@@ -154,100 +155,122 @@ impl Maker<'_> {
     }
 }
 
+/// What was taken of a module: its length, and the internals that stood before.
+struct Taken {
+    start: usize,
+    len: usize,
+    before: usize,
+}
+
+impl Maker<'_> {
+    /// Takes a prefix of a module, shortened until the forest has no more than `want` nodes: a
+    /// prefix is closed under children in the module, but may want externals.
+    fn take(&mut self, start: usize, len: usize, want: usize, r: &mut Rng) -> Taken {
+        let before = (self.node.clone(), self.ext.clone(), self.blocks.len(), self.internals.len());
+        let mut len = len;
+        loop {
+            self.module(start, start + len, r);
+            if self.size() <= want {
+                break;
+            }
+            self.node = before.0.clone();
+            self.ext = before.1.clone();
+            self.blocks.truncate(before.2);
+            self.internals.truncate(before.3);
+            len = len * 9 / 10;
+            if len == 0 {
+                break;
+            }
+        }
+        Taken { start, len, before: before.3 }
+    }
+
+    /// The roots of what was taken: whatever no node of this forest names, and a few more.
+    fn tops(&self, t: &Taken, r: &mut Rng) -> Vec<u32> {
+        let range = t.start..t.start + t.len;
+        let mut has_parent = vec![false; t.len];
+        for &(external, c) in self.internals[t.before..].iter().flat_map(|(_, kids)| kids) {
+            if !external && range.contains(&(c as usize)) {
+                has_parent[c as usize - t.start] = true;
+            }
+        }
+        let mut top = |i: &usize| {
+            !has_parent[i - t.start] || (self.u[*i].kind != 1 && r.chance(1, 200))
+        };
+        range.filter(|i| top(i)).map(|i| i as u32).collect()
+    }
+}
+
+/// A forest of about `want` nodes, of whole modules.
+fn of_modules(u: &[U], module: usize, want: usize, r: &mut Rng) -> Forest {
+    let modules = u.len().div_ceil(module);
+    let mut m = Maker {
+        u,
+        node: HashMap::new(),
+        ext: HashMap::new(),
+        blocks: vec![],
+        internals: vec![],
+    };
+    let mut tops = vec![];
+    while m.size() < want {
+        let k = r.below(modules as u64) as usize;
+        let start = k * module;
+        let full = ((k + 1) * module).min(u.len());
+        if m.node.contains_key(&(start as u32)) {
+            // Taken already: in a tiny universe nothing may be left.
+            if m.node.len() >= u.len() || r.chance(1, 8) {
+                break;
+            }
+            continue;
+        }
+        let len = (full - start).min(want - m.size());
+        let taken = m.take(start, len, want, r);
+        tops.extend(m.tops(&taken, r));
+    }
+    m.finish(&tops)
+}
+
+/// Fills a forest up to the exact number with blocks of its own, behind its blocks.
+fn fill_up(forest: &mut Forest, want: usize, number: usize) {
+    let (recs, roots) = forest;
+    let miss = want - recs.len();
+    if miss == 0 {
+        return;
+    }
+    let at = recs.iter().position(|x| x.kind >= 2).unwrap_or(recs.len());
+    let block = |k: usize| Rec {
+        kind: 1,
+        count: 0,
+        child: [0; 2],
+        digest: mix(3, &[number as u64, k as u64]),
+    };
+    recs.splice(at..at, (0..miss).map(block));
+    let shift = |c: &mut u32| {
+        if *c as usize >= at {
+            *c += miss as u32;
+        }
+    };
+    for x in recs.iter_mut() {
+        x.child[..x.count as usize].iter_mut().for_each(shift);
+    }
+    roots.iter_mut().for_each(shift);
+}
+
 pub fn workload(n: usize, seed: u64) -> Vec<Forest> {
     let mut r = Rng(seed);
     let module = module_size(n);
     let u = universe((n * 11 / 20).max(1), module, &mut r);
-    let modules = u.len().div_ceil(module);
     let nf = if n <= 10_000 { 8 } else if n <= 40_000 { 16 } else { 32 };
     let mut forests = vec![];
     let mut left = n;
     for f in 0..nf {
         let want = left / (nf - f);
-        let mut m = Maker {
-            u: &u,
-            node: HashMap::new(),
-            ext: HashMap::new(),
-            blocks: vec![],
-            internals: vec![],
-        };
-        let mut tops = vec![];
-        while m.size() < want {
-            let k = r.below(modules as u64) as usize;
-            let start = k * module;
-            let full = ((k + 1) * module).min(u.len());
-            if m.node.contains_key(&(start as u32)) {
-                // taken already: only fresh blocks are left to fill up with in a tiny universe
-                if m.node.len() >= u.len() || r.chance(1, 8) {
-                    break;
-                }
-                continue;
-            }
-            // a prefix of a module is closed under children in the module; leave room for
-            // externals
-            let room = want - m.size();
-            let len = (full - start).min(room);
-            let before = (m.node.clone(), m.ext.clone(), m.blocks.len(), m.internals.len());
-            let mut len_try = len;
-            loop {
-                m.module(start, start + len_try, &mut r);
-                if m.size() <= want {
-                    break;
-                }
-                m.node = before.0.clone();
-                m.ext = before.1.clone();
-                m.blocks.truncate(before.2);
-                m.internals.truncate(before.3);
-                len_try = len_try * 9 / 10;
-                if len_try == 0 {
-                    break;
-                }
-            }
-            // roots: whatever no node of this forest names, and a few more
-            let mut has_parent = vec![false; len_try];
-            for (_, kids) in &m.internals[before.3..] {
-                for &(external, c) in kids {
-                    if !external && (start..start + len_try).contains(&(c as usize)) {
-                        has_parent[c as usize - start] = true;
-                    }
-                }
-            }
-            for i in start..start + len_try {
-                if !has_parent[i - start] || (u[i].kind != 1 && r.chance(1, 200)) {
-                    tops.push(i as u32);
-                }
-            }
-        }
-        let (mut recs, mut roots) = m.finish(&tops);
-        // fill up to the exact number with blocks of this forest's own, behind its blocks
-        let miss = want - recs.len();
-        if miss > 0 {
-            let at = recs.iter().position(|x| x.kind >= 2).unwrap_or(recs.len());
-            let fill: Vec<Rec> = (0..miss)
-                .map(|k| Rec {
-                    kind: 1,
-                    count: 0,
-                    child: [0; 2],
-                    digest: mix(3, &[f as u64, k as u64]),
-                })
-                .collect();
-            recs.splice(at..at, fill);
-            let shift = |c: &mut u32| {
-                if *c as usize >= at {
-                    *c += miss as u32;
-                }
-            };
-            for x in &mut recs {
-                for c in 0..x.count as usize {
-                    shift(&mut x.child[c]);
-                }
-            }
-            roots.iter_mut().for_each(shift);
-        }
-        left -= recs.len();
-        forests.push((recs, roots));
+        let mut forest = of_modules(&u, module, want, &mut r);
+        fill_up(&mut forest, want, f);
+        left -= forest.0.len();
+        forests.push(forest);
     }
-    // any order of forests, so that replacements lie on both sides
+    // Any order of forests, so that replacements lie on both sides.
     for i in (1..forests.len()).rev() {
         forests.swap(i, r.below(i as u64 + 1) as usize);
     }
