@@ -1,4 +1,6 @@
 // The entry points for callers in C and Rust: slices as pointer and length, the reply as its number and two values.
+#![tactic(auto)]
+
 ghost use Rattle.std.specs.Prelude.{◌≡◌, []};
 ghost use Rattle.forest.specs.Validate.{validate as validate_of};
 ghost use Rattle.forest.specs.Canonicalize.{canonicalize as canonicalize_of};

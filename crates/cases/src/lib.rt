@@ -1,5 +1,7 @@
 // Runs the cases on standard input, a line each: lends marked buffers, compares the reply and every buffer afterwards, counts.
 // A line `= validate`, `= canonicalize` or `= merge` says what the cases below it call. A line that begins with # is a remark.
+#![tactic(auto)]
+
 mod buffers;
 mod canonicalizes;
 mod compare;

@@ -1,4 +1,6 @@
 // The demonstration with a byte of table too many, and a part word in `roots`, which is looked at later.
+#![tactic(auto)]
+
 fn main() {
     demonstration::run();
 }

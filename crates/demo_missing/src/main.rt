@@ -1,4 +1,6 @@
 // The demonstration without `roots`, and a byte of table too many, which is looked at later.
+#![tactic(auto)]
+
 fn main() {
     demonstration::run();
 }

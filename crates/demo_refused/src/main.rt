@@ -1,4 +1,6 @@
 // The demonstration on K6: a cycle, which is refused.
+#![tactic(auto)]
+
 fn main() {
     demonstration::run();
 }

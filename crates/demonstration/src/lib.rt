@@ -1,4 +1,6 @@
 // Document 01's demonstration: merges the forests in the files `table`, `nodes` and `roots`, and prints the result.
+#![tactic(auto)]
+
 ghost use Rattle.std.specs.Prelude.{◌≤◌};
 ghost use Rattle.io.specs.Counts.{IsPrefixLen};
 

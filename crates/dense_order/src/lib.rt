@@ -1,4 +1,6 @@
 // Validate and Canonicalize: whether a forest's nodes stand in dense order, and putting them into it.
+#![tactic(auto)]
+
 ghost use Rattle.std.specs.Prelude.{◌≡◌, not, ◌||◌, [], ◌∷◌, ◌+◌, ◌-◌, ◌*◌, ◌≤◌, leb, eqb, length};
 ghost use Rattle.std.proofs.Math.Option.{none, some};
 ghost use Rattle.record.specs.Order.{before};

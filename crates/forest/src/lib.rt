@@ -1,4 +1,6 @@
 // The answer of every entry point, and its numbers. What the entry points mean stands in specs/.
+#![tactic(auto)]
+
 ghost use Rattle.std.specs.Prelude.{◌≡◌};
 ghost use Rattle.forest.specs.Reply.{row as row_of, told};
 

@@ -1,4 +1,6 @@
 // Merge: many forests into one, and where each old node went.
+#![tactic(auto)]
+
 ghost use Rattle.std.specs.Prelude.{◌≡◌, ◌/◌, length};
 ghost use Rattle.record.specs.Node.{size};
 ghost use Rattle.forest.specs.Merge.{merge as merge_of};

@@ -1,5 +1,7 @@
 // A set of ids below n, in the 2n words of the work room from `at` on: a row of n bits, one an id, and, where that is more than one word,
 // behind it the set of those words of the row that are not 0. So the lowest id is found in one look a row.
+#![tactic(auto)]
+
 ghost use Rattle.std.specs.Prelude.{◌≡◌, true, false, not, ◌<◌, ◌≤◌, eqb};
 ghost use Rattle.record.specs.Lists.{run};
 ghost use Rattle.forest.specs.Lists.{lowest};

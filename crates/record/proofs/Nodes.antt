@@ -191,6 +191,7 @@ written_renumber f n w = record { full = full_renumber f n w.full; passes = bad_
 
 zeros_fit : (l : List ℕ) → all (eqb 0) l ≡ true → Within 4 l
 unfolding all
+zeros_fit [] e x m = elim m [ ]
 zeros_fit (y ∷ l) e x (Memᴰ.head q) = let z : 0 ≡ y = eqb-true 0 y (both_true (eqb 0 y) (all (eqb 0) l) e).0 in omega arith
 zeros_fit (y ∷ l) e x (Memᴰ.tail m) = zeros_fit l (both_true (eqb 0 y) (all (eqb 0) l) e).1 x m
 

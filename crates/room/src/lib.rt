@@ -1,4 +1,6 @@
 // Sections of a lent work room: clearing and copying them; and what a search in it answers.
+#![tactic(auto)]
+
 ghost use Rattle.std.specs.Prelude.{◌≡◌, ◌+◌, ◌≤◌, length, replicate};
 ghost use Rattle.room.specs.Sections.{span, Apart, Puts};
 

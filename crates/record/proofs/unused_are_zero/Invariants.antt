@@ -1,0 +1,17 @@
+use mathlib.Core.Bool.{◌&&◌}
+use mathlib.Core.Path.{◌≡◌, sym, ◌∙◌}
+use Prim.Native.Nat.{◌-◌, max}
+use native.Mathlib.Omega.{arith}
+use borrow.Author.Rules.{rules}
+use lib.ListN.{length, drop}
+use lib.Dec.{eqb}
+use Rattle.record.specs.Node.{fields}
+use Rattle.record.specs.Lists.{all}
+use Rattle.record.proofs.Rules.{looked_start, looked_on, looked_end}
+use Rattle.record.proofs.unused_are_zero.Given as goal
+
+abbrev pub invariant-loop-i : goal.invariant-loop-i
+invariant-loop-i l = all (eqb 0) (drop l.count l.kids) ≡ (l.zero && all (eqb 0) (drop (max l.i l.count) l.kids))
+
+abbrev pub decreases-loop-i : goal.decreases-loop-i
+decreases-loop-i l = fields - l.i

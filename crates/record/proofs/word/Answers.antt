@@ -1,0 +1,8 @@
+use mathlib.Core.Path.{refl}
+use borrow.Author.Rules.{rules}
+use Rattle.record.specs.Order.{deciding}
+use Rattle.record.proofs.word.Goals as goal
+
+pub returns : goal.returns
+unfolding deciding
+returns c = refl

@@ -1,0 +1,12 @@
+use mathlib.Core.Path.{refl}
+use Prim.Native.Nat.{◌-◌}
+use native.Mathlib.Omega.{arith}
+use Rattle.record.proofs.Readings.{Reading, reading_start, reading_step, reading_end}
+use Rattle.record.specs.Node.{words}
+use Rattle.record.proofs.words_at.Given as goal
+
+abbrev pub invariant-loop-i : goal.invariant-loop-i
+invariant-loop-i l = Reading 8 words l.s l.at l.d l.i
+
+abbrev pub decreases-loop-i : goal.decreases-loop-i
+decreases-loop-i l = words - l.i
