@@ -69,6 +69,7 @@ place_run n p h = rw (lowest_at (eqb p) 0 n p (λ x k. ne_eqb p x (λ e. omega a
 
 module _ (g : List Node) where
   ahead : (x : ℕ) (l : List ℕ) → Linked (May g) (x ∷ l) → (y : ℕ) → Memᴰ y l → rank (class (at g x)) ≤ rank (class (at g y))
+  ahead x [] _ y x5 = elim x5 [ ]
   ahead x (z ∷ l) (linked r s) y (Memᴰ.head e) = rw e r.classed
   ahead x (z ∷ l) (linked r s) y (Memᴰ.tail m) = let u : rank (class (at g z)) ≤ rank (class (at g y)) = ahead z l s y m in let v = r.classed in omega arith
 

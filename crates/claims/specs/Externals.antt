@@ -34,6 +34,7 @@ module _ (g : List Node) where
   -- then each goes before all that follow
   ahead : (x : ℕ) (l : List ℕ) → Linked (λ p q. lower g p q ≡ true) (x ∷ l) → (y : ℕ) → Memᴰ y l → lower g x y ≡ true
   unfolding lower
+  ahead x [] _ y x5 = elim x5 [ ]
   ahead x (z ∷ l) (linked r s) y (Memᴰ.head e) = rw e r
   ahead x (z ∷ l) (linked r s) y (Memᴰ.tail m) = before_trans (at g x).digest (at g z).digest (at g y).digest r (ahead z l s y m)
 
@@ -42,6 +43,7 @@ module _ (g : List Node) where
   not_lower p q e h = clash (let z = before_irrefl (at g q).digest in cc)
 
   pub apart : (l : List ℕ) → Linked (λ p q. lower g p q ≡ true) l → (p q : ℕ) → Memᴰ p l → Memᴰ q l → (at g p).digest ≡ (at g q).digest → p ≡ q
+  apart [] s p q x4 _ e = elim x4 [ ]
   apart (x ∷ l) s p q (Memᴰ.head a) (Memᴰ.head b) e = a ∙ sym b
   apart (x ∷ l) s p q (Memᴰ.head a) (Memᴰ.tail n) e = absurd (not_lower p q e (rw a (ahead x l s q n)))
   apart (x ∷ l) s p q (Memᴰ.tail m) (Memᴰ.head b) e = absurd (not_lower q p (sym e) (rw b (ahead x l s p m)))

@@ -126,6 +126,7 @@ module _ (g : List Node) where
   queue_prior (release {o = o} {p = p} r b q) = prior (ready_facts g o p r).2 (queue_prior q)
 
   queue_internal : {o l : List ℕ} → Queue g o l → (x : ℕ) → Memᴰ x l → is_internal (at g x) ≡ true
+  queue_internal (idle {o = o}) x x8 = elim x8 [ ]
   queue_internal (release {o = o} {p = p} r b q) x (Memᴰ.head e) = rw e (ready_facts g o p r).0
   queue_internal (release r b q) x (Memᴰ.tail m) = queue_internal q x m
 

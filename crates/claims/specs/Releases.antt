@@ -78,6 +78,7 @@ module _ (g : List Node) where
       rw append_assoc at (queue_distinct q (distinct_snoc p d (not_in p o (ready_facts o p r).1)))
 
   queue_below : {o l : List ℕ} → Queue g o l → (x : ℕ) → Memᴰ x l → x < length g
+  queue_below (idle {o = o}) x x8 = elim x8 [ ]
   queue_below (release r b q) x (Memᴰ.head e) = rw e b
   queue_below (release r b q) x (Memᴰ.tail m) = queue_below q x m
 

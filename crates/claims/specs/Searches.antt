@@ -29,6 +29,7 @@ has_in p (q ∷ qs) e = go (eqb p q) refl e (has_in p qs)
 
 pub in_has : (p : ℕ) (l : List ℕ) → Memᴰ p l → has p l ≡ true
 unfolding has
+in_has p [] x' = elim x' [ ]
 in_has p (q ∷ qs) (Memᴰ.head e) = rw (eq-eqb p q e)
 in_has p (q ∷ qs) (Memᴰ.tail m) = rw (in_has p qs m) (or-true (eqb p q))
 
@@ -39,6 +40,7 @@ not_in p l e m = true≢false (sym (in_has p l m) ∙ e)
 
 pub all_true : (t : ℕ → Bool) (l : List ℕ) → all t l ≡ true → (x : ℕ) → Memᴰ x l → t x ≡ true
 unfolding all
+all_true t [] e x x4 = elim x4 [ ]
 all_true t (y ∷ l) e x (Memᴰ.head h) = rw h (both_true (t y) (all t l) e).0
 all_true t (y ∷ l) e x (Memᴰ.tail m) = all_true t l (both_true (t y) (all t l) e).1 x m
 
@@ -86,11 +88,13 @@ module _ {A : Type 0} where
   -- where none is found the test fails at each
   pub lowest_none : (t : A → Bool) (l : List A) → lowest t l ≡ none → (x : A) → Memᴰ x l → t x ≡ false
   unfolding lowest
+  lowest_none t [] e x x4 = elim x4 [ ]
   lowest_none t (y ∷ l) e x (Memᴰ.head h) = rw h (here_or_none (t y) (lowest t l) e).0
   lowest_none t (y ∷ l) e x (Memᴰ.tail m) = lowest_none t l (here_or_none (t y) (lowest t l) e).1 x m
 
   pub last_of_none : (t : A → Bool) (l : List A) → last_of t l ≡ none → (x : A) → Memᴰ x l → t x ≡ false
   unfolding last_of
+  last_of_none t [] e x x4 = elim x4 [ ]
   last_of_none t (y ∷ l) e x (Memᴰ.head h) = rw h (later_none (t y) y (last_of t l) e).0
   last_of_none t (y ∷ l) e x (Memᴰ.tail m) = last_of_none t l (later_none (t y) y (last_of t l) e).1 x m
 
@@ -168,6 +172,7 @@ lowest_at t a (suc n) (suc k) f e h =
 
 pub first_some_none : (i : ℕ) (l : List (Option ℕ)) → first_some i l ≡ none → (o : Option ℕ) → Memᴰ o l → o ≡ none
 unfolding first_some
+first_some_none i [] e o m = elim m [ ]
 first_some_none i (none ∷ l) e o (Memᴰ.head h) = h
 first_some_none i (none ∷ l) e o (Memᴰ.tail m) = first_some_none (suc i) l e o m
 first_some_none i (some c ∷ l) e o m = absurd (clash (cc))
@@ -196,7 +201,7 @@ module _ {A : Type 0} where
   get_d_mem (x ∷ l) zero d h = Memᴰ.head refl
   get_d_mem (x ∷ l) (suc p) d h = Memᴰ.tail (get_d_mem l p d (omega arith))
 
-  pub mem_at : (d : A) {l : List A} {x : A} → Memᴰ x l → (p : ℕ) × (get_or l p d ≡ x)
+  pub mem_at : (d : A) {x : A} {l : List A} → Memᴰ x l → (p : ℕ) × (get_or l p d ≡ x)
   mem_at d (Memᴰ.head e) = (0, sym e)
   mem_at d (Memᴰ.tail m) = let (p, e) = mem_at d m in (suc p, e)
 
@@ -224,5 +229,6 @@ module _ {A B : Type 0} where
 
   pub flat_in : (f : A → List B) (xs : List A) (x : A) (y : B) → Memᴰ x xs → Memᴰ y (f x) → Memᴰ y (flat f xs)
   unfolding flat
+  flat_in f [] x y x4 n = elim x4 [ ]
   flat_in f (z ∷ xs) x y (Memᴰ.head e) n = Memᴰ.append_left _ (rw e at n)
   flat_in f (z ∷ xs) x y (Memᴰ.tail m) n = Memᴰ.append_right (f z) (flat_in f xs x y m n)

@@ -111,6 +111,7 @@ module _ (t : ℕ → Bool) where
 
   pub in_keep : (l : List ℕ) (x : ℕ) → Memᴰ x l → t x ≡ true → Memᴰ x (keep t l)
   unfolding keep
+  in_keep [] x x4 e = elim x4 [ ]
   in_keep (y ∷ l) x (Memᴰ.head h) e = rw (sym (ap t h) ∙ e, keep) (Memᴰ.head h)
   in_keep (y ∷ l) x (Memᴰ.tail m) e = go (t y) refl (in_keep l x m e)
     where
@@ -194,6 +195,7 @@ module _ (less : ℕ → ℕ → Bool) where
 
   pub in_sort : (l : List ℕ) (x : ℕ) → Memᴰ x l → Memᴰ x (sort less l)
   unfolding sort
+  in_sort [] x x3 = elim x3 [ ]
   in_sort (y ∷ l) x (Memᴰ.head e) = in_insert _ y (sort less l) x (inl e)
   in_sort (y ∷ l) x (Memᴰ.tail m) = in_insert _ y (sort less l) x (inr (in_sort l x m))
 

@@ -1,0 +1,6 @@
+use Rattle.room.proofs.Writes.{puts_whole}
+use borrow.Author.Rules.{rules}
+use Rattle.room.proofs.clear.Goals as goal
+
+pub returns : goal.returns
+returns c = let p = c.clear_part in puts_whole _ _ _ p.auto.0 p.ensures
