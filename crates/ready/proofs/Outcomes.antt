@@ -41,10 +41,10 @@ module _ (u v : List ℕ) (small : (p : ℕ) → (get_or u p 0 < 2 ^ width) × (
           ]
 
   rows_same : {at n k : ℕ} → Tree u at n → Tree v at n → ((i : ℕ) → i < n → member u at n i ≡ member v at n i) → InRow n k → word u at k ≡ word v at k
-  rows_same t s m (here h) = row_same t s m _ h
-  rows_same {at} {n} t s m (above {k = k} l r) =
+  rows_same {at = at} t s m (here h) = row_same t s m _ h
+  rows_same {at = at} {n = n} t s m (above {k = k} l r) =
       let z : at + words n + k ≡ at + (words n + k) = omega arith in
-      let e = rows_same (above_tree l t) (above_tree l s) (λ i h. above_tells l t i h ∙ (tells (row_same t s m i h) ∙ sym (above_tells l s i h))) r in
+      let e = rows_same {at = at + words n} (above_tree l t) (above_tree l s) (λ i h. above_tells l t i h ∙ (tells (row_same t s m i h) ∙ sym (above_tells l s i h))) r in
       rw z at e
 
 -- a word of a row is of the first, or of one above

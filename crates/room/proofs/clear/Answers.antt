@@ -3,4 +3,4 @@ use borrow.Author.Rules.{rules}
 use Rattle.room.proofs.clear.Goals as goal
 
 pub returns : goal.returns
-returns c = let p = c.clear_part in puts_whole _ _ _ p.auto.0 p.ensures
+returns c = let p = c.clear_part in puts_whole _ _ _ p.auto.work p.ensures
