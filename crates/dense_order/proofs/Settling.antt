@@ -39,6 +39,7 @@ names_child g c e h =
 -- what is in a list is there once or more
 times_in : (c : ℕ) (l : List ℕ) → Memᴰ c l → 0 < times c l
 unfolding times one
+times_in c [] x' = elim x' [ ]
 times_in c (x ∷ l) (Memᴰ.head e) = rw (eq-eqb x c (sym e)) (omega arith)
 times_in c (x ∷ l) (Memᴰ.tail m) = let h = times_in c l m in omega arith
 

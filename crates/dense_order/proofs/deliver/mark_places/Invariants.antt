@@ -1,0 +1,11 @@
+use Prim.Native.Nat.{◌-◌, ◌<◌}
+use native.Mathlib.Omega.{arith}
+use lib.ListN.{get_or}
+use Rattle.dense_order.proofs.Marking.{Marking, marking_start, marking_below, marking_step, marking_end}
+use Rattle.dense_order.proofs.deliver.mark_places.Given as goal
+
+abbrev pub invariant-loop-k : goal.invariant-loop-k
+invariant-loop-k l = Marking l.initial.work l.work l.n l.filled l.k
+
+abbrev pub decreases-loop-k : goal.decreases-loop-k
+decreases-loop-k l = l.filled - l.k

@@ -1,0 +1,40 @@
+use Prim.Native.Nat.{◌-◌}
+use mathlib.Core.Path.{◌≡◌}
+use mathlib.Core.Logic.{⊎_elim}
+use native.Mathlib.Omega.{arith}
+use borrow.Author.Rules.{rules}
+use lib.ListN.{length, get_or}
+use Rattle.record.specs.Node.{fields}
+use Rattle.dense_order.specs.Marks.{new_id, Placed}
+use Rattle.dense_order.proofs.Filling.{Renumbering, renumbering_start, child_here, renumbering_step, renumbering_skip, renumbered_is}
+use Rattle.dense_order.proofs.deliver.renumbered.Goals as goal
+use Rattle.dense_order.proofs.deliver.renumbered.Goals.{Then-i-count, then-i-count, else-i-count}
+
+placed : (c : Then-i-count) → Placed c.args.work.now c.args.n (get_or c.loop-i.kids c.loop-i.i 0)
+placed c =
+    let k : length c.args.node.kids ≡ fields = search rules in
+    let p = c.requires.count_le_fields in
+    child_here c.loop-i.invariant c.if-i-count.true (omega arith) (Placed c.args.work.now c.args.n) c.requires.by_index
+
+pub loop-i-init : goal.loop-i-init
+loop-i-init c = renumbering_start _ _
+
+pub overflow_cast-kids : goal.overflow_cast-kids
+overflow_cast-kids c = omega (arith, (placed (goal.at.overflow_cast-kids c).Then-i-count).0)
+
+pub new_id-requires : goal.new_id-requires
+new_id-requires c = record { n_in_bounds = c.requires.n_in_bounds; placed = placed (goal.at.new_id-requires c).Then-i-count }
+
+-- a child gets its new id, what is no child stays
+pub loop-i-preserved : goal.loop-i-preserved
+loop-i-preserved c =
+    let r = c.loop-i.invariant in
+    let k : length c.args.node.kids ≡ fields = search rules in
+    let p = c.requires.count_le_fields in
+    elim c.if-i-count.branch [
+      | then-i-count w ↦ rw w.kids-is (renumbering_step r w.if-i-count.true (omega arith) w.new_id.ensures)
+      | else-i-count w ↦ rw w.kids-is (renumbering_skip r w.if-i-count.false)
+    ]
+
+pub returns : goal.returns
+returns c = renumbered_is c.loop-i.invariant (omega arith)

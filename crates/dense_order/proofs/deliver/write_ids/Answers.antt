@@ -1,0 +1,25 @@
+use Prim.Native.Nat.{◌-◌}
+use native.Mathlib.Omega.{arith}
+use Rattle.record.specs.Lists.{run}
+use Rattle.record.proofs.Lengths.{length_run}
+use Rattle.dense_order.specs.Marks.{new_id}
+use Rattle.dense_order.proofs.Filling.{Filled, filled_start, filled_long, filled_step, filled_end, ids_at}
+use Rattle.dense_order.proofs.deliver.write_ids.Goals as goal
+
+pub loop-p-init : goal.loop-p-init
+loop-p-init c = filled_start _ _ _ (omega (arith, length_run 0 c.args.n))
+
+pub new_id-requires : goal.new_id-requires
+new_id-requires c = record { n_in_bounds = c.requires.n_in_bounds; placed = (c.loop-p-test.true, c.requires.by_index _ c.loop-p-test.true) }
+
+pub bounds-ids-p : goal.bounds-ids-p
+bounds-ids-p c = omega (arith, filled_long c.loop-p.invariant)
+
+pub loop-p-preserved : goal.loop-p-preserved
+loop-p-preserved c = filled_step c.loop-p.invariant (omega (arith, length_run 0 c.args.n)) (rw (ids_at _ _ c.loop-p-test.true) c.new_id.ensures)
+
+pub shape_of-ids : goal.shape_of-ids
+shape_of-ids c = filled_long c.loop-p.invariant
+
+pub returns : goal.returns
+returns c = filled_end c.loop-p.invariant (omega (arith, length_run 0 c.args.n))

@@ -1,0 +1,13 @@
+use Prim.Native.Nat.{◌-◌}
+use native.Mathlib.Omega.{arith}
+use lib.ListN.{length, get_or}
+use Rattle.claims.specs.Searches.{get_d_mem}
+use Rattle.dense_order.specs.Marks.{new_id, Placed}
+use Rattle.dense_order.proofs.Filling.{Filled, filled_start, filled_long, filled_step, filled_end}
+use Rattle.dense_order.proofs.deliver.write_roots.Given as goal
+
+abbrev pub invariant-loop-i : goal.invariant-loop-i
+invariant-loop-i l = Filled (new_id l.work l.n) l.roots l.initial.out l.out l.i
+
+abbrev pub decreases-loop-i : goal.decreases-loop-i
+decreases-loop-i l = length l.roots - l.i

@@ -1,0 +1,14 @@
+use Prim.Native.Nat.{◌-◌, ◌≤◌}
+use mathlib.Core.Path.{◌≡◌, refl, ◌∙◌}
+use native.Mathlib.Omega.{arith}
+use lib.ListN.{length, length-set}
+use borrow.Author.Rules.{rules}
+use Rattle.dense_order.specs.Kinds.{Kept}
+use Rattle.dense_order.proofs.Keeping.{kept_start, kept_next, kept_all}
+use Rattle.dense_order.proofs.order.keep_order.Given as goal
+
+abbrev pub invariant-loop-p : goal.invariant-loop-p
+invariant-loop-p l = (length l.work ≡ length l.initial.work) × ((l.p ≤ l.n) × Kept l.initial.work l.work l.n l.p)
+
+abbrev pub decreases-loop-p : goal.decreases-loop-p
+decreases-loop-p l = l.n - l.p
