@@ -8,10 +8,9 @@ use mathlib.Core.List.Memᴰ
 use mathlib.Core.List.{List, [], ◌∷◌, ◌++◌, Memᴰ}
 use Rattle.std.proofs.Math.Logic.{inl, inr}
 use Rattle.std.proofs.Math.Decide.{ℕ_discrete}
-use Rattle.record.specs.Lists.{run, over}
-use Rattle.record.specs.Order.{before}
+use Rattle.record.specs.Lists.{run}
 use Rattle.record.proofs.Basics.{clash}
-use Rattle.forest.specs.Lists.{keep, later, insert, sort}
+use Rattle.forest.specs.Lists.{keep, insert, sort}
 use Rattle.claims.specs.Distinct.{Distinct, empty, fresh}
 
 -- neighbours stand in the relation

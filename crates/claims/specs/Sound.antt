@@ -15,7 +15,6 @@ use Rattle.record.proofs.Basics.{clash}
 use Rattle.record.proofs.Nodes.{child_from}
 use Rattle.forest.specs.Graph.{at, replaced_by, listed, next}
 use Rattle.forest.specs.Lists.{lowest}
-use Rattle.forest.specs.Order.{ids}
 use Rattle.forest.specs.Walk.{State, start, going, id_in, or_none, id_of, ended, push, finish, visit, walk}
 use Rattle.claims.specs.Distinct.{Distinct, empty, fresh}
 use Rattle.claims.specs.Searches.{lowest_none, lowest_lt}

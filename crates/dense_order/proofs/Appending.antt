@@ -14,7 +14,7 @@ use lib.ListN.{length, take, get_or, set, length-set}
 use lib.Seq.{take_at, take_all, get_or-set_other}
 use Rattle.record.specs.Node.{nodes_of, is_internal}
 use Rattle.record.proofs.Basics.{both_true}
-use Rattle.forest.specs.Graph.{joined, at}
+use Rattle.forest.specs.Graph.{at}
 use Rattle.forest.specs.Lists.{has}
 use Rattle.forest.specs.Order.{ready}
 use Rattle.claims.specs.Distinct.{distinct_snoc}

@@ -1,7 +1,7 @@
 -- Laws of Canonicalize's checks of a forest, one after the other, up to the room that holds its order.
 -- Assumes nothing.
 use Prim.Native.Nat.{ℕ, ◌/◌, ◌<◌}
-use mathlib.Core.Path.{◌≡◌, refl, ◌∙◌}
+use mathlib.Core.Path.{◌≡◌, ◌∙◌}
 use mathlib.Core.Bool.{not}
 use mathlib.Core.List.{List, [], ◌∷◌, map}
 use mathlib.Core.Option.{Option, some, none}

@@ -11,10 +11,9 @@ use lib.Dec.{eqb}
 use borrow.Author.Tests.{eq-eqb, ne_eqb}
 use lib.ListN.{length, get_or, set, length-set}
 use lib.Seq.{get_or-set_same, get_or-set_other}
-use Rattle.record.specs.Lists.{same}
 use Rattle.record.specs.Node.{is_internal}
 use Rattle.record.specs.declared.Node.{Node}
-use Rattle.forest.specs.Graph.{joined, at}
+use Rattle.forest.specs.Graph.{at}
 use Rattle.forest.specs.Lists.{has}
 use Rattle.ready.specs.Tree.{member, Tree, Changed}
 use Rattle.ready.proofs.Trees.{row_of, tree_outside}

@@ -12,13 +12,11 @@ use borrow.Author.Tests.{eqb-true, lt-ltb, le-ltb, eq-eqb}
 use lib.ListN.{length, get_or, set, length-take, length-set}
 use lib.Seq.{get_or-set_same, get_or-set_other, get_or-take}
 use Rattle.record.specs.Node.{fields, size, node_at, nodes_of, children}
-use Rattle.record.specs.Order.{before}
 use Rattle.record.specs.declared.Node.{Node}
 use Rattle.record.proofs.Basics.{clash, both_true}
 use Rattle.record.proofs.Nodes.{full_read}
 use Rattle.forest.specs.Graph.{at}
 use Rattle.forest.specs.Lent.{work_words, most}
-use Rattle.claims.specs.Built.{earlier}
 use Rattle.claims.specs.Searches.{get_d_mem}
 use Rattle.room.specs.Sections.{Out}
 use Rattle.sorting.proofs.Uses.{at_node_lem}

@@ -24,7 +24,6 @@ use Rattle.claims.specs.Distinct.{pigeonhole}
 use Rattle.claims.specs.Places.{lowest_passes}
 use Rattle.claims.specs.Releases.{begun_distinct, begun_in, length_order}
 use Rattle.claims.specs.Searches.{has_in, in_has, lowest_none, lowest_lt, lowest_agree, get_d_mem}
-use Rattle.claims.specs.Settled.{fits}
 use Rattle.room.specs.Places.{place_of}
 use Rattle.room.specs.Sections.{span, Out}
 use Rattle.room.specs.declared.Place.{Place}
@@ -36,7 +35,6 @@ use Rattle.dense_order.specs.Kinds.{Ordered, of_kind, Space, Kinds, Blank, Exter
 use Rattle.dense_order.specs.Marks.{mark_of, Unmarked, Marked}
 use Rattle.dense_order.specs.State.{heads_at, Fair, Settles, Begun, Released, Fresh, Opened}
 use Rattle.dense_order.proofs.Gathering.{externals_kind, blocks_kind}
-use Rattle.dense_order.proofs.Opening.{counted}
 
 -- EXTERNALS ---------------------------------------------------------------------------------------
 

@@ -3,7 +3,7 @@
 use Prim.Native.Nat.{ℕ, suc, ◌+◌, ◌*◌, ◌/◌, ◌<◌, ◌≤◌}
 use mathlib.Core.Path.{◌≡◌, refl, ap, sym, ◌∙◌}
 use mathlib.Core.List.{List}
-use mathlib.Core.Option.{some, none}
+use mathlib.Core.Option.{none}
 use native.Mathlib.Decide.{ℕ_discrete}
 use native.Mathlib.Omega.{arith}
 use borrow.Author.Tests.{eq-eqb, ne_eqb}
@@ -14,8 +14,7 @@ use Rattle.record.specs.Lists.{run}
 use Rattle.record.specs.Node.{size, nodes_of}
 use Rattle.record.proofs.Lengths.{length_run}
 use Rattle.record.proofs.Nodes.{length_nodes_of}
-use Rattle.forest.specs.Lists.{lowest}
-use Rattle.forest.specs.Lent.{first, most}
+use Rattle.forest.specs.Lent.{first}
 use Rattle.forest.specs.Order.{ids, order}
 use Rattle.forest.specs.Validate.{node_faults}
 use Rattle.forest.specs.Canonicalize.{disorders}

@@ -15,7 +15,7 @@ use Rattle.record.specs.Node.{fields, node_at, nodes_of, is_internal, children}
 use Rattle.record.specs.declared.Node.{Node}
 use Rattle.record.proofs.Nodes.{not_internal, length_nodes_of}
 use Rattle.record.proofs.Rules.{internal_kind}
-use Rattle.forest.specs.Graph.{joined, at}
+use Rattle.forest.specs.Graph.{at}
 use Rattle.forest.specs.Lists.{has, keep}
 use Rattle.forest.specs.Order.{begun}
 use Rattle.claims.specs.Releases.{begun_distinct, begun_in}

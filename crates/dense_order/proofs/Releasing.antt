@@ -15,7 +15,7 @@ use Rattle.record.specs.Node.{nodes_of, is_internal, children}
 use Rattle.record.proofs.Nodes.{length_nodes_of}
 use Rattle.forest.specs.Graph.{at}
 use Rattle.forest.specs.Lists.{has, lowest}
-use Rattle.forest.specs.Order.{ids, ready, released, begun, order}
+use Rattle.forest.specs.Order.{ids, ready, released, order}
 use Rattle.claims.specs.Distinct.{fresh, pigeonhole}
 use Rattle.claims.specs.Searches.{not_in, none_lowest, lowest_ids, lowest_agree}
 use Rattle.claims.specs.Sorts.{run_in}

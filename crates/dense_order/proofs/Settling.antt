@@ -20,7 +20,6 @@ use Rattle.claims.specs.Children.{parent_below, Bare}
 use Rattle.claims.specs.Distinct.{Distinct, empty, fresh}
 use Rattle.claims.specs.Paths.{HasChild}
 use Rattle.claims.specs.Searches.{has_in, get_d_mem}
-use Rattle.claims.specs.Sorts.{linked}
 use Rattle.room.specs.Sections.{span}
 use Rattle.room.proofs.Spans.{span_length, span_at, span_same}
 use Rattle.dense_order.specs.Mentions.{prior, one, namer, names, still, left}

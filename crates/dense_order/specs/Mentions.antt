@@ -1,6 +1,6 @@
 -- Who names whom: a mention is a child field of a node, numbered over all nodes; the mentions of one child are linked, the latest first.
 -- Assumes nothing: these are definitions.
-use Rattle.std.specs.Prelude.{ℕ, zero, suc, ◌+◌, ◌/◌, ◌%◌, Bool, true, false, not, ◌&&◌, List, [], ◌∷◌, ltb, eqb, length, get_or}
+use Rattle.std.specs.Prelude.{ℕ, zero, suc, ◌+◌, ◌/◌, ◌%◌, Bool, true, false, not, ◌&&◌, List, ltb, eqb, length, get_or}
 use Rattle.record.specs.Node.{fields, children}
 use Rattle.record.specs.declared.Node.{Node}
 use Rattle.forest.specs.Lists.{has, keep}

@@ -36,21 +36,21 @@ const BLOCK: u32 = 1;
 const INTERNAL: u32 = 2;
 
 // A child of a node.
-#[derive(Drop)]
+#[derive(Clone, Copy)]
 pub enum Kid {
     Child(u32),
     Childless,
 }
 
 // A node and a child of it past the end.
-#[derive(Drop)]
+#[derive(Clone, Copy)]
 pub enum Far {
     At(usize, u32),
     Nowhere,
 }
 
 // What a check says.
-#[derive(Drop)]
+#[derive(Clone, Copy)]
 pub enum Check {
     Passed,
     Refused(Reply),
@@ -302,7 +302,7 @@ pub fn canonicalize(
     work: &mut [u32],
 ) -> Reply
     ensures { canonicalized
-        (record { table = []; nodes = nodes.entry.now; roots = roots.now })
+        (record { table = []; nodes = nodes.now; roots = roots.now })
         (record { nodes = node_out.old; roots = root_out.old; ids = ids.old; work = work.old })
         ≡ record {
           reply = result;

@@ -1,7 +1,7 @@
 -- Document 01, 'Examples', K1 to K12: one table, one statement, proved by computing it. It stands beside the definitions, so that a
 -- definition that breaks an example is refused in its own crate.
 -- Assumes nothing.
-use Prim.Native.Nat.{ℕ, zero, suc, ◌+◌, ◌*◌, ◌/◌, ◌%◌}
+use Prim.Native.Nat.{ℕ, ◌+◌, ◌*◌, ◌/◌, ◌%◌}
 use mathlib.Core.Path.{◌≡◌, refl}
 use mathlib.Core.List.{List, [], ◌∷◌, ◌++◌, map}
 use lib.ListN.{length, replicate}

@@ -1,6 +1,6 @@
 -- Document 01: the forests joined into one graph, its roots, its ranges, and step 1, the replacement.
 -- Assumes nothing: these are definitions.
-use Rattle.std.specs.Prelude.{ℕ, zero, suc, ◌+◌, Bool, true, false, not, ◌&&◌, List, [], ◌∷◌, ◌++◌, map, leb, ltb, take, drop, get_or, replicate}
+use Rattle.std.specs.Prelude.{ℕ, ◌+◌, true, false, not, ◌&&◌, List, [], ◌∷◌, ◌++◌, map, leb, ltb, take, drop, get_or, replicate}
 use Rattle.std.proofs.Math.Option.{Option, some, none}
 use Rattle.record.specs.Lists.{same, flat}
 use Rattle.record.specs.Node.{fields, words, is_external, children, renumber}

@@ -1,12 +1,11 @@
 -- Document 01, Merge: many forests into one.
 -- Assumes nothing: these are definitions.
-use Rattle.std.specs.Prelude.{ℕ, ◌*◌, ◌/◌, ◌%◌, Bool, true, false, not, ◌&&◌, ◌||◌, List, [], ◌∷◌, ◌++◌, map, leb, ltb, eqb, length}
+use Rattle.std.specs.Prelude.{ℕ, ◌*◌, ◌/◌, ◌%◌, not, ◌&&◌, ◌||◌, List, [], ◌∷◌, ◌++◌, map, leb, ltb, eqb, length}
 use Rattle.std.proofs.Math.Option.{Option, some, none}
 use Rattle.record.specs.Node.{size, row_size, nodes_of, rows_of}
 use Rattle.record.specs.declared.Node.{Node}
-use Rattle.record.specs.declared.Row.{Row}
 use Rattle.forest.specs.Lists.{firsts, sum}
-use Rattle.forest.specs.Lent.{Input, Room, Outcome, Result, work_words, most, no_id, when, naming, answered}
+use Rattle.forest.specs.Lent.{Input, Room, Outcome, Result, work_words, most, no_id, when, answered}
 use Rattle.forest.specs.Graph.{Forest, forests, joined, joined_roots}
 use Rattle.forest.specs.Walk.{State, start, Walked, going, cycle, deep, id_in, walk}
 use Rattle.forest.specs.Order.{ids, order, place_in, arranged}

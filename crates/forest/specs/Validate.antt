@@ -1,6 +1,6 @@
 -- Document 01, Validate: whether node records stand in dense order.
 -- Assumes nothing: these are definitions.
-use Rattle.std.specs.Prelude.{ℕ, zero, suc, ◌/◌, ◌%◌, Bool, true, false, not, ◌&&◌, List, [], ◌∷◌, leb, ltb, eqb, length}
+use Rattle.std.specs.Prelude.{ℕ, suc, ◌/◌, ◌%◌, not, ◌&&◌, List, [], ◌∷◌, leb, ltb, eqb, length}
 use Rattle.std.proofs.Math.Option.{Option, some, none}
 use Rattle.record.specs.Order.{before}
 use Rattle.record.specs.Node.{size, nodes_of, bad, class, rank, is_external, children}

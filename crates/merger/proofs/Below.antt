@@ -1,6 +1,6 @@
 -- What hangs below a position, by its record and the search for its replacement; and how its finish ends the walk below it.
 -- Assumes nothing.
-use Prim.Native.Nat.{ℕ, ◌+◌, ◌-◌, ◌<◌, ◌≤◌}
+use Prim.Native.Nat.{ℕ, ◌+◌, ◌<◌, ◌≤◌}
 use mathlib.Core.Path.{◌≡◌, refl, sym, ◌∙◌, ap}
 use mathlib.Core.Bool.{true}
 use mathlib.Core.List.{List, [], ◌∷◌, map, append-nil, Memᴰ}
@@ -22,7 +22,6 @@ use Rattle.room.specs.Places.{place_of}
 use Rattle.room.specs.declared.Place.{Place}
 use Rattle.room.specs.declared.Place.TheVariants.{At, Nothing}
 use Rattle.room.proofs.Answers.{at_some, nothing_none}
-use Rattle.sorting.specs.Digests.{holds}
 use Rattle.dense_order.proofs.Gathering.{external_kind}
 use Rattle.sorting.proofs.Uses.{get_d_map}
 use Rattle.merger.specs.Sections.{bases_at}

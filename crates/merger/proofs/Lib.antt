@@ -14,7 +14,6 @@ pub mod Finishing
 pub mod Going
 pub mod Below
 pub mod Taking
-pub mod Answers
 pub mod Pushing
 pub mod Rooting
 pub mod Kids

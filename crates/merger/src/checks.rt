@@ -55,7 +55,7 @@ pub(crate) fn sizes(
 pub(crate) fn examined(table: &[u8], nodes: &[u8], roots: &[u32]) -> Check
     requires few { Few table.now }
     requires nodes_len { (length nodes.now ≡ size * node_sum table.now) × (length roots.now ≡ root_sum table.now) }
-    ensures { result ≡ check_of (first (range_checks (record { table = table.entry.now; nodes = nodes.now; roots = roots.now }))) }
+    ensures { result ≡ check_of (first (range_checks (record { table = table.now; nodes = nodes.now; roots = roots.now }))) }
 {
     if let Place::At(p) = dense_order::first_bad(nodes) {
         return Check::Refused(Reply::BadRecord(p as u64));

@@ -52,7 +52,7 @@ const STARTS: usize = 8;
 
 // A place in the table: how many rows lie before it, the position of the first node of the last of them, and how many nodes and roots all
 // of them have.
-#[derive(Drop)]
+#[derive(Clone, Copy)]
 struct Cursor {
     rows: usize,
     base: usize,
@@ -61,7 +61,7 @@ struct Cursor {
 }
 
 // What a walk answers: how many nodes are merged, the open node that it met again, or the node that it was to open at the limit.
-#[derive(Drop)]
+#[derive(Clone, Copy)]
 enum Went {
     On(usize),
     Cycle(usize),
@@ -69,7 +69,7 @@ enum Went {
 }
 
 // What is merged: how many nodes and roots, or a refusal.
-#[derive(Drop)]
+#[derive(Clone, Copy)]
 enum Joined {
     Whole(usize, usize),
     Refused(Reply),
@@ -79,7 +79,7 @@ enum Joined {
 fn walked(table: &[u8], nodes: &[u8], roots: &[u32], limit: u32, work: &mut [u32], n: usize) -> Went
     requires past { Past limit (record { table = table.now; nodes = nodes.now; roots = roots.now }) work.old }
     requires n_value { n ≡ length nodes.now / size }
-    ensures { Ends limit (record { table = table.entry.now; nodes = nodes.now; roots = roots.now }) work.new n result }
+    ensures { Ends limit (record { table = table.now; nodes = nodes.now; roots = roots.now }) work.new n result }
 {
     room::clear(work);
     table::write_bases(table, work, n);
@@ -98,7 +98,7 @@ fn merged(
     starts: usize,
 ) -> Joined
     requires { Sized limit (record { table = table.now; nodes = nodes.now; roots = roots.now }) work.old }
-    ensures { Joins limit (record { table = table.entry.now; nodes = nodes.now; roots = roots.now }) records starts work.new (length nodes.now / size) result }
+    ensures { Joins limit (record { table = table.now; nodes = nodes.now; roots = roots.now }) records starts work.new (length nodes.now / size) result }
 {
     if let Check::Refused(reply) = checks::examined(table, nodes, roots) {
         return Joined::Refused(reply);
@@ -130,7 +130,7 @@ pub fn merge(
     work: &mut [u32],
 ) -> Reply
     ensures { merge_of limit
-        (record { table = table.entry.now; nodes = nodes.entry.now; roots = roots.now })
+        (record { table = table.now; nodes = nodes.now; roots = roots.now })
         (record { nodes = node_out.old; roots = root_out.old; ids = ids.old; work = work.old })
         ≡ record {
           reply = result;

@@ -1,14 +1,14 @@
 -- Laws of bits: those of a number with one bit set or cleared, and of the lowest set bit.
 -- Assumes nothing.
-use Prim.Native.Nat.{ℕ, zero, suc, ◌+◌, ◌-◌, ◌*◌, ◌/◌, ◌%◌, ◌^◌, ◌≤◌, ◌<◌, min, max}
-use mathlib.Core.Path.{◌≡◌, refl, ap, ap₂, sym, ◌∙◌, subst}
+use Prim.Native.Nat.{ℕ, zero, suc, ◌+◌, ◌-◌, ◌*◌, ◌/◌, ◌%◌, ◌^◌, ◌<◌, min, max}
+use mathlib.Core.Path.{◌≡◌, refl, ap, sym, ◌∙◌}
 use native.Mathlib.Decide.{dec_lt, ℕ_discrete}
-use native.Mathlib.Nat.{mod-lt, div-eq_of_lt, div_self, pow-suc, mul_comm, zero-lt-suc}
+use native.Mathlib.Nat.{mod-lt, div-eq_of_lt, div_self, pow-suc, zero-lt-suc}
 use native.Mathlib.Numerals.{one-add}
 use native.Mathlib.Omega.{arith}
 use lib.Arith.{digits_mod}
-use lib.Bits.{bit_and, bit_or, bit_xor, differ, and_step, or_step, xor_step, and_shr, or_shr, xor_shr, shifted_even}
-use lib.Count.{count_trailing_zeros, under}
+use lib.Bits.{bit_and, bit_or, bit_xor, differ, and_step, or_step, xor_step, and_shr, or_shr, xor_shr}
+use lib.Count.{count_trailing_zeros}
 use lib.Pow.{pow-lt, pow-add, shl-shr, shr-shr}
 use Rattle.ready.specs.Tree.{bit}
 

@@ -1,19 +1,19 @@
 -- Laws of putting and removing an id: its bit in the row, and when the row above is to be changed too.
 -- Assumes nothing.
-use Prim.Native.Nat.{ℕ, zero, suc, ◌+◌, ◌-◌, ◌*◌, ◌/◌, ◌%◌, ◌^◌, ◌≤◌, ◌<◌}
-use mathlib.Core.Path.{◌≡◌, refl, ap, sym, ◌∙◌, subst}
+use Prim.Native.Nat.{ℕ, ◌+◌, ◌-◌, ◌*◌, ◌/◌, ◌%◌, ◌^◌, ◌≤◌, ◌<◌}
+use mathlib.Core.Path.{◌≡◌, ap, sym, ◌∙◌}
 use mathlib.Core.Bool.{Bool, true, false, not, ◌||◌}
 use mathlib.Core.List.{List}
 use mathlib.Core.Logic.{◌⊎◌, inl, inr}
 use native.Mathlib.Decide.{dec_lt, ℕ_discrete}
 use native.Mathlib.Omega.{arith}
-use borrow.Author.Tests.{ltb-true, ltb-false, leb-true, leb-false, lt-leb, eq-eqb, ne_eqb}
+use borrow.Author.Tests.{ltb-true, ltb-false, leb-false, lt-leb, ne_eqb}
 use lib.Bits.{bit_and, bit_or, bit_xor, and_zero_l, xor_zero_l}
 use lib.Dec.{leb, ltb, eqb, lit<}
-use lib.ListN.{length, set, get_or}
+use lib.ListN.{length, set}
 use lib.Pow.{shl_exact}
 use Rattle.record.proofs.Basics.{either_false}
-use Rattle.ready.specs.Tree.{width, words, word, bit, member, Tree, Changed}
+use Rattle.ready.specs.Tree.{width, word, Tree, Changed}
 use Rattle.ready.proofs.Bits.{bit_zero, set_same, set_other, cut_same, cut_other}
 use Rattle.ready.proofs.Trees.{tells, row_of, above_count, Edit, changed_here, changed_above, above_edited}
 

@@ -2,10 +2,10 @@
 -- Assumes nothing.
 use Prim.Native.Nat.{ℕ, zero, suc, ◌+◌, ◌-◌, ◌*◌, ◌/◌, ◌%◌, ◌^◌, ◌≤◌, ◌<◌}
 use mathlib.Core.Path.{◌≡◌, refl, ap, sym, ◌∙◌}
-use mathlib.Core.Bool.{Bool, true, false, not}
+use mathlib.Core.Bool.{true, false, not}
 use mathlib.Core.List.{List}
 use mathlib.Core.Option.{some, none}
-use native.Mathlib.Decide.{dec_lt, ℕ_discrete}
+use native.Mathlib.Decide.{dec_lt}
 use native.Mathlib.Omega.{arith}
 use borrow.Author.Tests.{eq-eqb, ne_eqb}
 use lib.Count.{count_trailing_zeros}
@@ -16,7 +16,7 @@ use Rattle.record.proofs.Basics.{clash}
 use Rattle.forest.specs.Lists.{lowest}
 use Rattle.claims.specs.Searches.{none_lowest, lowest_none, lowest_ids, lowest_before, lowest_at, lowest_agree}
 use Rattle.claims.specs.Sorts.{in_run, run_in}
-use Rattle.ready.specs.Tree.{width, words, word, bit, member, Row, Tree}
+use Rattle.ready.specs.Tree.{width, words, word, bit, member, Tree}
 use Rattle.ready.proofs.Bits.{bit_zero, Lowest, lowest_bit}
 use Rattle.ready.proofs.Trees.{tells, row_of, above_count, above_tells, above_tree}
 

@@ -12,7 +12,7 @@ use lib.Dec.{eqb}
 use lib.ListN.{length, get_or}
 use lib.Seq.{ext_get_or}
 use Rattle.record.proofs.Basics.{clash}
-use Rattle.ready.specs.Tree.{width, words, word, bit, member, Row, Tree, InRow, here, above, Changed}
+use Rattle.ready.specs.Tree.{width, words, word, bit, member, Tree, InRow, here, above, Changed}
 use Rattle.ready.proofs.Bits.{bit_lt, bits_same}
 use Rattle.ready.proofs.Trees.{tells, row_of, above_tells, above_tree}
 

@@ -1,8 +1,8 @@
 -- Laws of sets: changes outside one, a set of zeros, and one word of a row that gets another value.
 -- Assumes nothing.
-use Prim.Native.Nat.{ℕ, zero, suc, ◌+◌, ◌-◌, ◌*◌, ◌/◌, ◌%◌, ◌^◌, ◌≤◌, ◌<◌}
+use Prim.Native.Nat.{ℕ, zero, suc, ◌+◌, ◌-◌, ◌*◌, ◌/◌, ◌%◌, ◌≤◌, ◌<◌}
 use mathlib.Core.Path.{◌≡◌, refl, ap, sym, ◌∙◌, subst}
-use mathlib.Core.Bool.{Bool, true, false, not}
+use mathlib.Core.Bool.{Bool, false, not}
 use mathlib.Core.List.{List}
 use mathlib.Core.Logic.{◌⊎◌, inl, inr}
 use native.Mathlib.Decide.{dec_lt, ℕ_discrete}
@@ -10,7 +10,6 @@ use native.Mathlib.Omega.{arith}
 use lib.Dec.{eqb}
 use lib.ListN.{length, set, get_or, length-set}
 use lib.Seq.{get_or-set_same, get_or-set_other}
-use Rattle.room.specs.Sections.{Out}
 use Rattle.ready.specs.Tree.{width, words, word, bit, member, Row, Tree, one, more, InRow, here, above, Changed}
 use Rattle.ready.proofs.Bits.{bit_zero}
 

@@ -1,6 +1,6 @@
 -- Document 01, 'Records': node records and table rows.
 -- Assumes nothing: these are definitions.
-use Rattle.std.specs.Prelude.{ℕ, zero, suc, ◌+◌, ◌*◌, ◌/◌, Bool, true, false, not, ◌&&◌, ◌||◌, List, [], ◌∷◌, ◌++◌, map, leb, ltb, eqb, length, take, drop}
+use Rattle.std.specs.Prelude.{ℕ, zero, suc, ◌+◌, ◌*◌, ◌/◌, Bool, not, ◌&&◌, ◌||◌, List, ◌++◌, map, ltb, eqb, length, take, drop}
 use Rattle.record.specs.Lists.{same, run, all, flat}
 use Rattle.record.specs.Number.{number, numbers, bytes}
 use Rattle.record.specs.declared.Node.{Node}

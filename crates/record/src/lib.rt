@@ -23,7 +23,7 @@ pub const ROW_SIZE: usize = 8;
 pub const LAST_KIND: u32 = 255;
 
 // A node: kind 0 is external, 1 a block, 2 to 255 internal.
-#[derive(Drop)]
+#[derive(Clone, Copy)]
 pub struct Node {
     pub kind: u32,
     pub count: u32,
@@ -32,13 +32,13 @@ pub struct Node {
 }
 
 // A table row: how many nodes and roots a forest has.
-#[derive(Drop)]
+#[derive(Clone, Copy)]
 pub struct Row {
     pub nodes: u32,
     pub roots: u32,
 }
 
-#[derive(Drop)]
+#[derive(Clone, Copy)]
 pub enum Order {
     Less,
     Equal,

@@ -1,14 +1,13 @@
 -- Laws of sections: their length, their elements, what a store does to them.
 -- Assumes nothing.
-use Prim.Native.Nat.{ℕ, zero, suc, ◌+◌, ◌-◌, ◌<◌, ◌≤◌}
+use Prim.Native.Nat.{ℕ, suc, ◌+◌, ◌-◌, ◌<◌, ◌≤◌}
 use mathlib.Core.Path.{◌≡◌, refl, sym, ◌∙◌, ap}
 use mathlib.Core.List.{List, [], ◌∷◌, ◌++◌}
-use mathlib.Core.Logic.{◌⊎◌, inl, inr}
 use native.Mathlib.Omega.{arith}
 use native.Mathlib.Numerals.{add-one}
-use lib.ListN.{length, take, drop, get_or, set, length-take, length-drop, length-set}
+use lib.ListN.{length, drop, get_or, set, length-take, length-drop, length-set}
 use Rattle.room.specs.Sections.{span}
-use lib.Seq.{take-add, drop-drop, drop-cons, ext_get_or, get_or-take, get_or-drop, get_or-set_same, get_or-set_other, take-suc}
+use lib.Seq.{take-add, drop-drop, drop-cons, ext_get_or, get_or-take, get_or-drop, get_or-set_same, get_or-set_other}
 
 pub span_length : (w : List ℕ) (a e : ℕ) → e ≤ length w → length (span w a e) ≡ e - a
 unfolding span

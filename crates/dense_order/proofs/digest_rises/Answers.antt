@@ -1,5 +1,4 @@
 use mathlib.Core.Path.{◌≡◌, sym, ◌∙◌}
-use native.Mathlib.Omega.{arith}
 use borrow.Author.Rules.{rules}
 use Rattle.record.specs.Order.{is_less}
 use Rattle.record.specs.declared.Order.TheVariants.{Less, Equal, Greater}

@@ -1,4 +1,4 @@
-use mathlib.Core.Path.{◌≡◌, ◌∙◌}
+use mathlib.Core.Path.{◌≡◌}
 use borrow.Author.Rules.{rules}
 use Rattle.room.specs.declared.Place.TheVariants.{At, Nothing}
 use Rattle.room.proofs.Answers.{at_some, nothing_none}

@@ -1,6 +1,3 @@
-use native.Mathlib.Omega.{arith}
-use borrow.Author.Rules.{rules}
-use borrow.Author.Tests.{not-true, not-false}
 use Rattle.dense_order.proofs.Faults.{fault_class, fault_digest, fault_forward}
 use Rattle.dense_order.proofs.fault.Goals as goal
 

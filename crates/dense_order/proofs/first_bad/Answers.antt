@@ -1,10 +1,7 @@
 use mathlib.Core.Path.{◌≡◌, ap, sym, ◌∙◌}
 use mathlib.Core.Bool.{true, false}
-use Prim.Native.Nat.{◌-◌}
-use native.Mathlib.Omega.{arith}
-use borrow.Author.Rules.{rules}
 use Rattle.record.specs.Node.{node_at, bad}
-use Rattle.dense_order.proofs.Lowest.{Seeking, seeking_start, seeking_found, seeking_step, seeking_end}
+use Rattle.dense_order.proofs.Lowest.{seeking_start, seeking_found, seeking_step, seeking_end}
 use Rattle.dense_order.proofs.first_bad.Goals as goal
 
 pub loop-i-init : goal.loop-i-init

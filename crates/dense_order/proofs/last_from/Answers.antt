@@ -1,10 +1,10 @@
 use mathlib.Core.Path.{◌≡◌}
-use Prim.Native.Nat.{◌≤◌, ◌-◌}
+use Prim.Native.Nat.{◌-◌}
 use native.Mathlib.Omega.{arith}
 use borrow.Author.Rules.{rules}
 use lib.ListN.{length}
 use Rattle.record.specs.Node.{fields}
-use Rattle.dense_order.proofs.Last.{Among, among_start, among_found, among_step, among_end}
+use Rattle.dense_order.proofs.Last.{among_start, among_found, among_step, among_end}
 use Rattle.dense_order.proofs.last_from.Goals as goal
 use Rattle.dense_order.proofs.last_from.Goals.{Start}
 

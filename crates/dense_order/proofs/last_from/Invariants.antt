@@ -1,10 +1,6 @@
-use mathlib.Core.Path.{◌≡◌}
-use Prim.Native.Nat.{◌≤◌, ◌-◌}
-use native.Mathlib.Omega.{arith}
-use borrow.Author.Rules.{rules}
-use lib.ListN.{length}
+use Prim.Native.Nat.{◌≤◌}
 use Rattle.record.specs.Node.{fields}
-use Rattle.dense_order.proofs.Last.{Among, among_start, among_found, among_step, among_end}
+use Rattle.dense_order.proofs.Last.{Among}
 use Rattle.dense_order.proofs.last_from.Given as goal
 
 abbrev pub invariant-loop-left : goal.invariant-loop-left

@@ -1,5 +1,4 @@
 use borrow.Author.Tests.{lt-ltb, le-ltb, eq-eqb, ne_eqb}
-use borrow.Author.Rules.{rules}
 use Rattle.forest.specs.Lent.{when, first}
 use Rattle.dense_order.specs.Found.{check_of}
 use Rattle.dense_order.specs.Steps.{size_checks}

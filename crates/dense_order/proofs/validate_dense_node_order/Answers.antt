@@ -1,9 +1,8 @@
 use mathlib.Core.Path.{◌≡◌, sym, ◌∙◌}
-use Prim.Native.Nat.{◌-◌}
 use native.Mathlib.Omega.{arith}
 use borrow.Author.Rules.{rules}
 use Rattle.dense_order.specs.declared.Check.TheVariants.{Passed, Refused}
-use Rattle.dense_order.proofs.Faults.{Ordered, none_ordered, first_refused, first_ordered, next_refused, next_ordered, all_ordered}
+use Rattle.dense_order.proofs.Faults.{none_ordered, first_refused, first_ordered, next_refused, next_ordered, all_ordered}
 use Rattle.dense_order.proofs.validate_dense_node_order.Goals as goal
 
 pub returns-then-n-eq0 : goal.returns-then-n-eq0

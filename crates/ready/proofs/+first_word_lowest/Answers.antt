@@ -3,10 +3,9 @@ use Rattle.ready.proofs.Trees.{row_of}
 use Rattle.room.proofs.Answers.{at_some, nothing_none}
 use Rattle.room.specs.Places.{place_of}
 use mathlib.Core.Path.{ap, ◌∙◌}
-use Prim.Native.Nat.{◌+◌, ◌*◌}
+use Prim.Native.Nat.{◌+◌}
 use native.Mathlib.Omega.{arith}
 use borrow.Author.Rules.{rules}
-use Prim.Native.Nat.{ℕ, ◌<◌}
 use Rattle.ready.proofs.+first_word_lowest.Goals as goal
 
 pub first_word-overflow_add-at : goal.first_word-overflow_add-at

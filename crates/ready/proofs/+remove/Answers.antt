@@ -2,8 +2,6 @@ use Rattle.ready.proofs.Edits.{in_room, remove_here, remove_above, remove_asks}
 use lib.ListN.{length-set}
 use mathlib.Core.Path.{◌∙◌}
 use native.Mathlib.Omega.{arith}
-use borrow.Author.Rules.{rules}
-use Prim.Native.Nat.{ℕ, ◌<◌}
 use Rattle.ready.proofs.+remove.Goals as goal
 
 pub overflow_add-old : goal.overflow_add-old

@@ -1,4 +1,3 @@
-use borrow.Author.Rules.{rules}
 use Rattle.record.proofs.Rules.{bad_tests}
 use Rattle.record.proofs.bad.Goals as goal
 

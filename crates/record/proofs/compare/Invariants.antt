@@ -1,9 +1,5 @@
-use mathlib.Core.Path.{◌≡◌}
 use Prim.Native.Nat.{◌≤◌, ◌-◌}
-use native.Mathlib.Omega.{arith}
-use borrow.Author.Rules.{rules}
-use lib.ListN.{length}
-use Rattle.record.proofs.Compares.{Comparing, comparing_start, comparing_less, comparing_greater, comparing_step, comparing_end}
+use Rattle.record.proofs.Compares.{Comparing}
 use Rattle.record.specs.Node.{words}
 use Rattle.record.proofs.compare.Given as goal
 

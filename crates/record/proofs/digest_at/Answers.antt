@@ -1,4 +1,3 @@
-use borrow.Author.Rules.{rules}
 use Rattle.record.specs.Node.{node_at, record_at}
 use Rattle.record.proofs.digest_at.Goals as goal
 

@@ -1,7 +1,5 @@
 use mathlib.Core.Path.{refl}
-use Prim.Native.Nat.{◌-◌}
-use native.Mathlib.Omega.{arith}
-use Rattle.record.proofs.Readings.{Reading, reading_start, reading_step, reading_end}
+use Rattle.record.proofs.Readings.{reading_start, reading_step, reading_end}
 use Rattle.record.specs.Node.{fields}
 use Rattle.record.proofs.kids_at.Goals as goal
 

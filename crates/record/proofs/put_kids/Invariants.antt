@@ -1,9 +1,5 @@
-use mathlib.Core.Path.{◌≡◌}
 use Prim.Native.Nat.{◌-◌}
-use native.Mathlib.Omega.{arith}
-use borrow.Author.Rules.{rules}
-use lib.ListN.{length}
-use Rattle.record.proofs.Puts.{Putting, putting_start, putting_step, putting_end}
+use Rattle.record.proofs.Puts.{Putting}
 use Rattle.record.specs.Node.{fields}
 use Rattle.record.proofs.put_kids.Given as goal
 

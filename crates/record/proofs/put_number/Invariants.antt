@@ -1,9 +1,7 @@
-use mathlib.Core.Path.{◌≡◌, refl, ap, sym, ◌∙◌}
-use Prim.Native.Nat.{ℕ, ◌≤◌, ◌+◌, ◌-◌}
-use native.Mathlib.Omega.{arith}
+use mathlib.Core.Path.{◌≡◌}
+use Prim.Native.Nat.{◌≤◌, ◌+◌, ◌-◌}
 use lib.Seq.{sets}
-use lib.ListN.{length, length-set}
-use Rattle.record.proofs.Puts.{bytes_step, bytes_end}
+use lib.ListN.{length}
 use Rattle.record.specs.Number.{bytes}
 use Rattle.record.proofs.put_number.Given as goal
 

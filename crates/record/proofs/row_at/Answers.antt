@@ -1,4 +1,3 @@
-use borrow.Author.Rules.{rules}
 use Rattle.record.specs.Node.{row_at}
 use Rattle.record.proofs.row_at.Goals as goal
 

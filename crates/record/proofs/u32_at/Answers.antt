@@ -1,6 +1,5 @@
 use Prim.Native.Nat.{◌+◌}
 use native.Mathlib.Omega.{arith}
-use borrow.Author.Rules.{rules}
 use Rattle.record.proofs.Numbers.{number_four, number_none}
 use Rattle.record.proofs.u32_at.Goals as goal
 

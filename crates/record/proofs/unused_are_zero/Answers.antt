@@ -1,12 +1,9 @@
-use mathlib.Core.Bool.{◌&&◌}
 use mathlib.Core.Path.{◌≡◌, sym, ◌∙◌}
-use Prim.Native.Nat.{◌-◌, max}
 use native.Mathlib.Omega.{arith}
 use borrow.Author.Rules.{rules}
-use lib.ListN.{length, drop}
+use lib.ListN.{length}
 use lib.Dec.{eqb}
 use Rattle.record.specs.Node.{fields}
-use Rattle.record.specs.Lists.{all}
 use Rattle.record.proofs.Rules.{looked_start, looked_on, looked_end}
 use Rattle.record.proofs.unused_are_zero.Goals as goal
 use Rattle.record.proofs.unused_are_zero.Goals.{Start}

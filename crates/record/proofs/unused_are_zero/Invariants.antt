@@ -1,13 +1,10 @@
 use mathlib.Core.Bool.{◌&&◌}
-use mathlib.Core.Path.{◌≡◌, sym, ◌∙◌}
+use mathlib.Core.Path.{◌≡◌}
 use Prim.Native.Nat.{◌-◌, max}
-use native.Mathlib.Omega.{arith}
-use borrow.Author.Rules.{rules}
-use lib.ListN.{length, drop}
+use lib.ListN.{drop}
 use lib.Dec.{eqb}
 use Rattle.record.specs.Node.{fields}
 use Rattle.record.specs.Lists.{all}
-use Rattle.record.proofs.Rules.{looked_start, looked_on, looked_end}
 use Rattle.record.proofs.unused_are_zero.Given as goal
 
 abbrev pub invariant-loop-i : goal.invariant-loop-i

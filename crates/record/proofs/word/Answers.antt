@@ -1,5 +1,4 @@
 use mathlib.Core.Path.{refl}
-use borrow.Author.Rules.{rules}
 use Rattle.record.specs.Order.{deciding}
 use Rattle.record.proofs.word.Goals as goal
 

@@ -1,5 +1,4 @@
 use Rattle.room.proofs.Writes.{puts_whole}
-use borrow.Author.Rules.{rules}
 use Rattle.room.proofs.clear.Goals as goal
 
 pub returns : goal.returns

@@ -1,7 +1,5 @@
-use Prim.Native.Nat.{◌-◌}
 use native.Mathlib.Omega.{arith}
-use lib.ListN.{replicate}
-use Rattle.room.proofs.Writes.{Putting, zeros_start, zeros_step, putting_end}
+use Rattle.room.proofs.Writes.{zeros_start, zeros_step, putting_end}
 use Rattle.room.proofs.clear_part.Goals as goal
 
 pub loop-done-init : goal.loop-done-init

@@ -1,7 +1,6 @@
 use Prim.Native.Nat.{◌-◌}
-use native.Mathlib.Omega.{arith}
 use lib.ListN.{replicate}
-use Rattle.room.proofs.Writes.{Putting, zeros_start, zeros_step, putting_end}
+use Rattle.room.proofs.Writes.{Putting}
 use Rattle.room.proofs.clear_part.Given as goal
 
 abbrev pub invariant-loop-done : goal.invariant-loop-done

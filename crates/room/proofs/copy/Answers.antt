@@ -1,7 +1,5 @@
-use Prim.Native.Nat.{◌+◌, ◌-◌}
 use native.Mathlib.Omega.{arith}
-use Rattle.room.specs.Sections.{span}
-use Rattle.room.proofs.Writes.{Putting, copied_start, copied_step, putting_end}
+use Rattle.room.proofs.Writes.{copied_start, copied_step, putting_end}
 use Rattle.room.proofs.copy.Goals as goal
 
 pub loop-i-init : goal.loop-i-init

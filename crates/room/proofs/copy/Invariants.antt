@@ -1,7 +1,6 @@
 use Prim.Native.Nat.{◌+◌, ◌-◌}
-use native.Mathlib.Omega.{arith}
 use Rattle.room.specs.Sections.{span}
-use Rattle.room.proofs.Writes.{Putting, copied_start, copied_step, putting_end}
+use Rattle.room.proofs.Writes.{Putting}
 use Rattle.room.proofs.copy.Given as goal
 
 abbrev pub invariant-loop-i : goal.invariant-loop-i

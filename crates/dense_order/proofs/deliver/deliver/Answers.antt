@@ -1,4 +1,3 @@
-use borrow.Author.Rules.{rules}
 use Rattle.dense_order.proofs.Delivering.{room_fits, id_marked, root_placed, writable, delivered}
 use Rattle.dense_order.proofs.deliver.deliver.Goals as goal
 

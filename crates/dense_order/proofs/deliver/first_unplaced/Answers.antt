@@ -1,9 +1,5 @@
-use Prim.Native.Nat.{◌+◌, ◌-◌}
-use native.Mathlib.Omega.{arith}
-use lib.Dec.{eqb}
 use borrow.Author.Tests.{eq-eqb, ne_eqb}
-use lib.ListN.{get_or}
-use Rattle.dense_order.proofs.Marking.{Failing, failing_start, failing_found, failing_step, failing_end}
+use Rattle.dense_order.proofs.Marking.{failing_start, failing_found, failing_step, failing_end}
 use Rattle.dense_order.proofs.deliver.first_unplaced.Goals as goal
 
 pub loop-p-init : goal.loop-p-init

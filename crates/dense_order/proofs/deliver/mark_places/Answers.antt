@@ -1,7 +1,7 @@
-use Prim.Native.Nat.{◌-◌, ◌<◌}
+use Prim.Native.Nat.{◌<◌}
 use native.Mathlib.Omega.{arith}
 use lib.ListN.{get_or}
-use Rattle.dense_order.proofs.Marking.{Marking, marking_start, marking_below, marking_step, marking_end}
+use Rattle.dense_order.proofs.Marking.{marking_start, marking_below, marking_step, marking_end}
 use Rattle.dense_order.proofs.deliver.mark_places.Goals as goal
 use Rattle.dense_order.proofs.deliver.mark_places.Goals.{After-slice_known-1}
 

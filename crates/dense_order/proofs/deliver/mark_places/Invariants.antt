@@ -1,7 +1,5 @@
-use Prim.Native.Nat.{◌-◌, ◌<◌}
-use native.Mathlib.Omega.{arith}
-use lib.ListN.{get_or}
-use Rattle.dense_order.proofs.Marking.{Marking, marking_start, marking_below, marking_step, marking_end}
+use Prim.Native.Nat.{◌-◌}
+use Rattle.dense_order.proofs.Marking.{Marking}
 use Rattle.dense_order.proofs.deliver.mark_places.Given as goal
 
 abbrev pub invariant-loop-k : goal.invariant-loop-k

@@ -1,5 +1,4 @@
 use mathlib.Core.Path.{refl}
-use borrow.Author.Rules.{rules}
 use Rattle.dense_order.specs.Marks.{new_id}
 use Rattle.dense_order.proofs.deliver.new_id.Goals as goal
 

@@ -1,12 +1,10 @@
-use Prim.Native.Nat.{◌-◌}
 use mathlib.Core.Path.{◌≡◌}
-use mathlib.Core.Logic.{⊎_elim}
 use native.Mathlib.Omega.{arith}
 use borrow.Author.Rules.{rules}
 use lib.ListN.{length, get_or}
 use Rattle.record.specs.Node.{fields}
-use Rattle.dense_order.specs.Marks.{new_id, Placed}
-use Rattle.dense_order.proofs.Filling.{Renumbering, renumbering_start, child_here, renumbering_step, renumbering_skip, renumbered_is}
+use Rattle.dense_order.specs.Marks.{Placed}
+use Rattle.dense_order.proofs.Filling.{renumbering_start, child_here, renumbering_step, renumbering_skip, renumbered_is}
 use Rattle.dense_order.proofs.deliver.renumbered.Goals as goal
 use Rattle.dense_order.proofs.deliver.renumbered.Goals.{Then-i-count, then-i-count, else-i-count}
 

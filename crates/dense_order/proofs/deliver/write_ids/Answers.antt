@@ -1,9 +1,6 @@
-use Prim.Native.Nat.{◌-◌}
 use native.Mathlib.Omega.{arith}
-use Rattle.record.specs.Lists.{run}
 use Rattle.record.proofs.Lengths.{length_run}
-use Rattle.dense_order.specs.Marks.{new_id}
-use Rattle.dense_order.proofs.Filling.{Filled, filled_start, filled_long, filled_step, filled_end, ids_at}
+use Rattle.dense_order.proofs.Filling.{filled_start, filled_long, filled_step, filled_end, ids_at}
 use Rattle.dense_order.proofs.deliver.write_ids.Goals as goal
 
 pub loop-p-init : goal.loop-p-init

@@ -1,8 +1,7 @@
-use Prim.Native.Nat.{◌-◌, ◌<◌}
+use Prim.Native.Nat.{◌<◌}
 use native.Mathlib.Omega.{arith}
 use lib.ListN.{get_or}
-use Rattle.room.specs.Sections.{span}
-use Rattle.dense_order.proofs.Records.{Wrote, moved, moving_start, moving_below, moving_ready, moving_long, moving_step, moving_end}
+use Rattle.dense_order.proofs.Records.{moving_start, moving_below, moving_ready, moving_long, moving_step, moving_end}
 use Rattle.dense_order.proofs.deliver.write_nodes.Goals as goal
 use Rattle.dense_order.proofs.deliver.write_nodes.Goals.{After-shared_slice_known-in-loop-k-1}
 

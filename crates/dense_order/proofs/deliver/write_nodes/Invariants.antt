@@ -1,8 +1,6 @@
-use Prim.Native.Nat.{◌-◌, ◌<◌}
-use native.Mathlib.Omega.{arith}
-use lib.ListN.{get_or}
+use Prim.Native.Nat.{◌-◌}
 use Rattle.room.specs.Sections.{span}
-use Rattle.dense_order.proofs.Records.{Wrote, moved, moving_start, moving_below, moving_ready, moving_long, moving_step, moving_end}
+use Rattle.dense_order.proofs.Records.{Wrote, moved}
 use Rattle.dense_order.proofs.deliver.write_nodes.Given as goal
 
 abbrev pub invariant-loop-k : goal.invariant-loop-k

@@ -1,9 +1,8 @@
-use Prim.Native.Nat.{◌-◌}
 use native.Mathlib.Omega.{arith}
-use lib.ListN.{length, get_or}
+use lib.ListN.{get_or}
 use Rattle.claims.specs.Searches.{get_d_mem}
-use Rattle.dense_order.specs.Marks.{new_id, Placed}
-use Rattle.dense_order.proofs.Filling.{Filled, filled_start, filled_long, filled_step, filled_end}
+use Rattle.dense_order.specs.Marks.{Placed}
+use Rattle.dense_order.proofs.Filling.{filled_start, filled_long, filled_step, filled_end}
 use Rattle.dense_order.proofs.deliver.write_roots.Goals as goal
 use Rattle.dense_order.proofs.deliver.write_roots.Goals.{After-shared_slice_known-in-loop-i-1}
 

@@ -1,9 +1,7 @@
 use Prim.Native.Nat.{◌-◌}
-use native.Mathlib.Omega.{arith}
-use lib.ListN.{length, get_or}
-use Rattle.claims.specs.Searches.{get_d_mem}
-use Rattle.dense_order.specs.Marks.{new_id, Placed}
-use Rattle.dense_order.proofs.Filling.{Filled, filled_start, filled_long, filled_step, filled_end}
+use lib.ListN.{length}
+use Rattle.dense_order.specs.Marks.{new_id}
+use Rattle.dense_order.proofs.Filling.{Filled}
 use Rattle.dense_order.proofs.deliver.write_roots.Given as goal
 
 abbrev pub invariant-loop-i : goal.invariant-loop-i

@@ -1,7 +1,6 @@
 use mathlib.Core.Path.{◌∙◌}
 use native.Mathlib.Omega.{arith}
 use lib.ListN.{length-set}
-use borrow.Author.Rules.{rules}
 use Rattle.dense_order.proofs.Appending.{standing_now, appends}
 use Rattle.dense_order.proofs.order.append.Goals as goal
 

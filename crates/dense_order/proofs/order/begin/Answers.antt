@@ -1,4 +1,3 @@
-use borrow.Author.Rules.{rules}
 use Rattle.dense_order.proofs.Finishing.{space_blocks, fresh_blocks, begins}
 use Rattle.dense_order.proofs.order.begin.Goals as goal
 

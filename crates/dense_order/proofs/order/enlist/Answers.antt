@@ -1,7 +1,5 @@
 use mathlib.Core.Path.{◌∙◌}
-use native.Mathlib.Omega.{arith}
 use lib.ListN.{length-set}
-use borrow.Author.Rules.{rules}
 use Rattle.dense_order.proofs.Opening.{enlists_plain, enlists_ready, tree_counted, test_plain, test_ready}
 use Rattle.dense_order.proofs.order.enlist.Goals as goal
 

@@ -1,9 +1,5 @@
-use Prim.Native.Nat.{◌-◌, ◌≤◌}
-use mathlib.Core.Path.{◌≡◌, refl, ◌∙◌}
+use mathlib.Core.Path.{refl, ◌∙◌}
 use native.Mathlib.Omega.{arith}
-use lib.ListN.{length}
-use borrow.Author.Rules.{rules}
-use Rattle.dense_order.specs.State.{Behind, Enlisted}
 use Rattle.dense_order.proofs.Opening.{enlisted_start, enlisted_all, opens}
 use Rattle.dense_order.proofs.order.enlist_all.Goals as goal
 

@@ -1,10 +1,7 @@
 use Prim.Native.Nat.{◌-◌, ◌≤◌}
-use mathlib.Core.Path.{◌≡◌, refl, ◌∙◌}
-use native.Mathlib.Omega.{arith}
+use mathlib.Core.Path.{◌≡◌}
 use lib.ListN.{length}
-use borrow.Author.Rules.{rules}
 use Rattle.dense_order.specs.State.{Behind, Enlisted}
-use Rattle.dense_order.proofs.Opening.{enlisted_start, enlisted_all, opens}
 use Rattle.dense_order.proofs.order.enlist_all.Given as goal
 
 abbrev pub invariant-loop-p : goal.invariant-loop-p

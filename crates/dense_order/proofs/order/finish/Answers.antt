@@ -1,4 +1,3 @@
-use borrow.Author.Rules.{rules}
 use Rattle.dense_order.proofs.Finishing.{unmarked, orders}
 use Rattle.dense_order.proofs.order.finish.Goals as goal
 

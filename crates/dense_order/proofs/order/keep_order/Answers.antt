@@ -1,9 +1,6 @@
-use Prim.Native.Nat.{◌-◌, ◌≤◌}
-use mathlib.Core.Path.{◌≡◌, refl, ◌∙◌}
+use mathlib.Core.Path.{refl}
 use native.Mathlib.Omega.{arith}
-use lib.ListN.{length, length-set}
-use borrow.Author.Rules.{rules}
-use Rattle.dense_order.specs.Kinds.{Kept}
+use lib.ListN.{length-set}
 use Rattle.dense_order.proofs.Keeping.{kept_start, kept_next, kept_all}
 use Rattle.dense_order.proofs.order.keep_order.Goals as goal
 

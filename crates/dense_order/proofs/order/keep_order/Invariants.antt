@@ -1,10 +1,7 @@
 use Prim.Native.Nat.{◌-◌, ◌≤◌}
-use mathlib.Core.Path.{◌≡◌, refl, ◌∙◌}
-use native.Mathlib.Omega.{arith}
-use lib.ListN.{length, length-set}
-use borrow.Author.Rules.{rules}
+use mathlib.Core.Path.{◌≡◌}
+use lib.ListN.{length}
 use Rattle.dense_order.specs.Kinds.{Kept}
-use Rattle.dense_order.proofs.Keeping.{kept_start, kept_next, kept_all}
 use Rattle.dense_order.proofs.order.keep_order.Given as goal
 
 abbrev pub invariant-loop-p : goal.invariant-loop-p

@@ -1,8 +1,6 @@
-use Prim.Native.Nat.{◌-◌}
-use mathlib.Core.Path.{◌≡◌, ◌∙◌}
 use native.Mathlib.Omega.{arith}
 use lib.ListN.{length, get_or, length-set}
-use Rattle.dense_order.proofs.Enlisting.{Chaining, Field, chaining_start, field_is, field_linked, fields_linked, record_inside}
+use Rattle.dense_order.proofs.Enlisting.{Field, chaining_start, field_is, field_linked, fields_linked, record_inside}
 use Rattle.dense_order.proofs.order.link_kids.Goals as goal
 use Rattle.dense_order.proofs.order.link_kids.Goals.{In-loop-j, In-loop-j-unread}
 

@@ -1,4 +1,3 @@
-use borrow.Author.Rules.{rules}
 use Rattle.dense_order.proofs.Finishing.{room_sort, externals_listed, space_blank}
 use Rattle.dense_order.proofs.order.list_externals.Goals as goal
 

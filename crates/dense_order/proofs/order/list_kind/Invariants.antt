@@ -1,12 +1,8 @@
 use Prim.Native.Nat.{◌-◌}
-use mathlib.Core.Path.{sym, ◌∙◌}
-use native.Mathlib.Omega.{arith}
 use lib.Dec.{eqb}
-use borrow.Author.Tests.{eq-eqb, ne_eqb}
 use Rattle.record.specs.Lists.{run}
 use Rattle.record.specs.Node.{node_at}
-use Rattle.sorting.proofs.Keeping.{Keeping, keeping_start, numbers_past, numbers_on}
-use Rattle.dense_order.proofs.Gathering.{gathered}
+use Rattle.sorting.proofs.Keeping.{Keeping}
 use Rattle.dense_order.proofs.order.list_kind.Given as goal
 
 abbrev pub invariant-loop-p : goal.invariant-loop-p

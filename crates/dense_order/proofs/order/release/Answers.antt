@@ -1,10 +1,8 @@
-use Prim.Native.Nat.{◌-◌}
-use mathlib.Core.Path.{◌≡◌, refl, ◌∙◌}
+use mathlib.Core.Path.{refl, ◌∙◌}
 use native.Mathlib.Omega.{arith}
-use lib.ListN.{length}
 use borrow.Author.Rules.{rules}
 use Rattle.room.proofs.Answers.{at_some, nothing_none}
-use Rattle.dense_order.proofs.Releasing.{Releasing, releasing_start, releasing_step, releasing_none, releasing_full, found_below, found_ready}
+use Rattle.dense_order.proofs.Releasing.{releasing_start, releasing_step, releasing_none, releasing_full, found_below, found_ready}
 use Rattle.dense_order.proofs.order.release.Goals as goal
 
 pub loop-filled-init : goal.loop-filled-init

@@ -1,7 +1,5 @@
 use mathlib.Core.Path.{◌∙◌}
-use native.Mathlib.Omega.{arith}
 use lib.ListN.{length-set}
-use borrow.Author.Rules.{rules}
 use Rattle.dense_order.proofs.Counting.{count_placed, stored_tree, resolved_some, resolved_last}
 use Rattle.dense_order.proofs.order.resolve.Goals as goal
 

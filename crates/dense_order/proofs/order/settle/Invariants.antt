@@ -1,8 +1,6 @@
-use mathlib.Core.Path.{◌≡◌, ◌∙◌}
-use native.Mathlib.Omega.{arith}
 use lib.ListN.{take}
 use Rattle.room.specs.Sections.{span}
-use Rattle.dense_order.proofs.Settling.{Settling, Next, next_is, settling_start, settling_step, settling_less, parent_few, count_some, settles}
+use Rattle.dense_order.proofs.Settling.{Settling}
 use Rattle.dense_order.proofs.order.settle.Given as goal
 
 abbrev pub invariant-loop-at : goal.invariant-loop-at

@@ -1,9 +1,5 @@
-use Prim.Native.Nat.{◌-◌}
 use mathlib.Core.Path.{◌≡◌, refl, ◌∙◌}
 use native.Mathlib.Omega.{arith}
-use lib.ListN.{length}
-use borrow.Author.Rules.{rules}
-use Rattle.dense_order.specs.State.{Settles}
 use Rattle.dense_order.proofs.order.settle_all.Goals as goal
 
 pub loop-t-init : goal.loop-t-init

@@ -1,8 +1,6 @@
 use Prim.Native.Nat.{◌-◌}
-use mathlib.Core.Path.{◌≡◌, refl, ◌∙◌}
-use native.Mathlib.Omega.{arith}
+use mathlib.Core.Path.{◌≡◌}
 use lib.ListN.{length}
-use borrow.Author.Rules.{rules}
 use Rattle.dense_order.specs.State.{Settles}
 use Rattle.dense_order.proofs.order.settle_all.Given as goal
 

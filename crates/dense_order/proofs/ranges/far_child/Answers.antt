@@ -1,9 +1,7 @@
 use mathlib.Core.Path.{◌≡◌, sym, ◌∙◌}
-use Prim.Native.Nat.{◌-◌}
-use native.Mathlib.Omega.{arith}
 use borrow.Author.Rules.{rules}
 use Rattle.dense_order.specs.declared.Kid.TheVariants.{Child, Childless}
-use Rattle.dense_order.proofs.ChildRange.{Near, near_start, near_found, near_step, near_end}
+use Rattle.dense_order.proofs.ChildRange.{near_start, near_found, near_step, near_end}
 use Rattle.dense_order.proofs.ranges.far_child.Goals as goal
 
 pub loop-i-init : goal.loop-i-init

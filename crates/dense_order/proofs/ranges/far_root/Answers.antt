@@ -1,7 +1,5 @@
-use Prim.Native.Nat.{◌-◌}
 use native.Mathlib.Omega.{arith}
-use lib.ListN.{length}
-use Rattle.dense_order.proofs.RootRange.{Inside, inside_start, inside_found, inside_step, inside_end}
+use Rattle.dense_order.proofs.RootRange.{inside_start, inside_found, inside_step, inside_end}
 use Rattle.dense_order.proofs.ranges.far_root.Goals as goal
 
 pub loop-i-init : goal.loop-i-init

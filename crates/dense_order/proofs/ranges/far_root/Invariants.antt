@@ -1,7 +1,6 @@
 use Prim.Native.Nat.{◌-◌}
-use native.Mathlib.Omega.{arith}
 use lib.ListN.{length}
-use Rattle.dense_order.proofs.RootRange.{Inside, inside_start, inside_found, inside_step, inside_end}
+use Rattle.dense_order.proofs.RootRange.{Inside}
 use Rattle.dense_order.proofs.ranges.far_root.Given as goal
 
 abbrev pub invariant-loop-i : goal.invariant-loop-i

@@ -1,7 +1,7 @@
 use mathlib.Core.Path.{sym, ◌∙◌}
-use Prim.Native.Nat.{◌-◌, ◌<◌}
+use Prim.Native.Nat.{◌-◌}
 use native.Mathlib.Omega.{arith}
-use Rattle.dense_order.proofs.Repeats.{Unlike, unlike_start, numbered, unlike_found, unlike_step, unlike_end}
+use Rattle.dense_order.proofs.Repeats.{unlike_start, numbered, unlike_found, unlike_step, unlike_end}
 use Rattle.dense_order.proofs.ranges.repeated.Goals as goal
 
 pub loop-i-init : goal.loop-i-init

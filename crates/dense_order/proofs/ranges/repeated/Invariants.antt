@@ -1,7 +1,5 @@
-use mathlib.Core.Path.{sym, ◌∙◌}
 use Prim.Native.Nat.{◌-◌, ◌<◌}
-use native.Mathlib.Omega.{arith}
-use Rattle.dense_order.proofs.Repeats.{Unlike, unlike_start, numbered, unlike_found, unlike_step, unlike_end}
+use Rattle.dense_order.proofs.Repeats.{Unlike}
 use Rattle.dense_order.proofs.ranges.repeated.Given as goal
 
 abbrev pub invariant-loop-i : goal.invariant-loop-i
