@@ -1,6 +1,5 @@
 // The buffers that a case lends, with a mark in each place, and what they hold afterwards.
 ghost use Rattle.std.specs.Prelude.{◌≡◌, ◌≤◌, length};
-ghost use Rattle.io.specs.Counts.{IsPrefixLen};
 
 // Room for the records of 16 nodes, and for their work words and some more.
 pub(crate) const NODES: usize = 16;
@@ -21,14 +20,14 @@ pub(crate) fn within(n: usize, most: usize) -> usize
 
 // A count of a buffer's bytes.
 pub(crate) fn within_bytes(n: usize, buffer: &[u8]) -> usize
-    ensures { IsPrefixLen result buffer.now }
+    ensures { result ≤ length buffer.now }
 {
     within(n, buffer.len())
 }
 
 // A count of a buffer's words.
 pub(crate) fn within_words(n: usize, buffer: &[u32]) -> usize
-    ensures { IsPrefixLen result buffer.now }
+    ensures { result ≤ length buffer.now }
 {
     within(n, buffer.len())
 }

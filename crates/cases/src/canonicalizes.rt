@@ -110,8 +110,9 @@ fn called(
     work: &mut [u32],
 ) -> Finding {
     let told = forest::tell(dense_order::canonicalize(nodes, roots, node_out, root_out, ids, work));
+    let accepted = told.number == 0;
     let finding = compared(case, told, node_out, root_out, ids, work);
-    if told.number != 0 {
+    if !accepted {
         return finding;
     }
     match finding {

@@ -5,6 +5,7 @@ use crate::buffers::{
 };
 use crate::text::{behind, part, read_nodes, read_words, section};
 use forest::Told;
+use std::io;
 
 // The sections of a case.
 pub(crate) const LENT: u32 = 1;
@@ -49,7 +50,7 @@ fn wanted(case: &[u8]) -> Told {
 }
 
 // Whether a reply has the number and the values that a case asks for.
-pub(crate) fn reply_is(case: &[u8], told: Told) -> bool {
+pub(crate) fn reply_is(case: &[u8], told: &Told) -> bool {
     let want = wanted(case);
     (told.number == want.number) & (told.first == want.first) & (told.second == want.second)
 }
@@ -96,8 +97,9 @@ pub(crate) fn compared(
     ids: &[u32],
     work: &[u32],
 ) -> Finding {
-    let accepted = told.number == 0;
-    if !reply_is(case, told) {
+    let number = told.number;
+    let accepted = number == 0;
+    if !reply_is(case, &told) {
         return Finding::Reply(told);
     }
     if !node_output_is(case, accepted, node_out) {
@@ -109,7 +111,7 @@ pub(crate) fn compared(
     if !word_output_is(case, accepted, IDS, ids) {
         return Finding::Buffer(6);
     }
-    if work_is(told.number, work) {
+    if work_is(number, work) {
         Finding::Right
     } else {
         Finding::Buffer(7)
@@ -123,43 +125,30 @@ fn name_length(case: &[u8]) -> usize {
 }
 
 // Writes a case's name.
-pub(crate) fn write_name(case: &[u8]) {
+pub(crate) fn write_name(rt: &impl Print, case: &[u8]) -> io::Result<()> {
     let n = within_bytes(name_length(case), case);
-    io::write_all(1, &case[..n]);
+    rt.write_all(&case[..n])
 }
 
 // Writes the reply that came.
-fn write_reply(told: Told) {
-    io::write_all(1, b": wrong, reply ");
-    io::print_decimal(1, told.number as u64);
-    io::write_all(1, b" ");
-    io::print_decimal(1, told.first);
-    io::write_all(1, b" ");
-    io::print_decimal(1, told.second);
-    io::write_all(1, b"\n");
+fn write_reply(rt: &impl Print, told: Told) -> io::Result<()> {
+    println!(rt;
+        ": wrong, reply {} {} {}",
+        told.number, told.first, told.second
+    )
 }
 
 // Ends a case's line with what the case finds; answers 1 if nothing is wrong.
-pub(crate) fn write_finding(finding: Finding) -> u64 {
+pub(crate) fn write_finding(rt: &impl Print, finding: Finding) -> io::Result<u64> {
     match finding {
         Finding::Right => {
-            io::write_all(1, b": ok\n");
-            return 1;
+            println!(rt; ": ok")?;
+            return Ok(1);
         }
-        Finding::Reply(told) => {
-            write_reply(told);
-        }
-        Finding::Buffer(number) => {
-            io::write_all(1, b": wrong, buffer ");
-            io::print_decimal(1, number);
-            io::write_all(1, b"\n");
-        }
-        Finding::Invalid => {
-            io::write_all(1, b": wrong, the result fails Validate\n");
-        }
-        Finding::Moved => {
-            io::write_all(1, b": wrong, the result is changed by Canonicalize\n");
-        }
+        Finding::Reply(told) => write_reply(rt, told)?,
+        Finding::Buffer(number) => println!(rt; ": wrong, buffer {number}")?,
+        Finding::Invalid => println!(rt; ": wrong, the result fails Validate")?,
+        Finding::Moved => println!(rt; ": wrong, the result is changed by Canonicalize")?,
     }
-    0
+    Ok(0)
 }

@@ -2,6 +2,8 @@
 // A line `= validate`, `= canonicalize` or `= merge` says what the cases below it call. A line that begins with # is a remark.
 #![tactic(auto)]
 
+ghost use Rattle.std.specs.Prelude.{◌≤◌, length, IfOk};
+
 mod buffers;
 mod canonicalizes;
 mod compare;
@@ -10,6 +12,7 @@ mod text;
 mod validates;
 
 use compare::Finding;
+use std::io::{self, Read};
 
 // How many bytes of cases there may be.
 const MOST: usize = 65536;
@@ -32,14 +35,14 @@ fn found(letter: u8, case: &[u8]) -> Finding {
 }
 
 // Runs a case, writes its line, and counts it.
-fn run_case(tally: Tally, case: &[u8]) -> Tally {
-    compare::write_name(case);
-    let right = compare::write_finding(found(tally.letter, case));
-    Tally {
+fn run_case(rt: &impl Print, tally: Tally, case: &[u8]) -> io::Result<Tally> {
+    compare::write_name(rt, case)?;
+    let right = compare::write_finding(rt, found(tally.letter, case))?;
+    Ok(Tally {
         letter: tally.letter,
-        cases: std::num::wrapping_add_u64(tally.cases, 1),
-        right: std::num::wrapping_add_u64(tally.right, right),
-    }
+        cases: tally.cases.wrapping_add(1),
+        right: tally.right.wrapping_add(right),
+    })
 }
 
 // The letter of what a line `= NAME` says is called.
@@ -51,23 +54,23 @@ fn letter_of(line: &[u8]) -> u8 {
 }
 
 // Takes a line: nothing, a remark, what is called, or a case.
-fn take_line(tally: Tally, line: &[u8]) -> Tally {
+fn take_line(rt: &impl Print, tally: Tally, line: &[u8]) -> io::Result<Tally> {
     if line.len() == 0 {
-        return tally;
+        return Ok(tally);
     }
     match line[0] {
-        b'#' => tally,
-        b'=' => Tally {
+        b'#' => Ok(tally),
+        b'=' => Ok(Tally {
             letter: letter_of(line),
             cases: tally.cases,
             right: tally.right,
-        },
-        _ => run_case(tally, line),
+        }),
+        _ => run_case(rt, tally, line),
     }
 }
 
 // Takes every line.
-fn take_lines(lines: &[u8]) -> Tally {
+fn take_lines(rt: &impl Print, lines: &[u8]) -> io::Result<Tally> {
     let mut t = Tally {
         letter: 0,
         cases: 0,
@@ -76,27 +79,38 @@ fn take_lines(lines: &[u8]) -> Tally {
     let mut at = 0;
     while at < lines.len() {
         let end = text::line_end(lines, at);
-        t = take_line(t, &lines[at..end]);
+        t = take_line(rt, t, &lines[at..end])?;
         at = end + 1;
     }
-    t
+    Ok(t)
 }
 
 // Writes the count.
-fn write_count(t: Tally) {
-    io::print_decimal(1, t.right);
-    io::write_all(1, b" of ");
-    io::print_decimal(1, t.cases);
-    io::write_all(1, b" cases ok\n");
+fn write_count(rt: &impl Print, t: Tally) -> io::Result<()> {
+    println!(rt; "{} of {} cases ok", t.right, t.cases)
+}
+
+// Reads until the buffer is full or the input ends; answers how many bytes it put at the buffer's start.
+fn read_full<R: Read>(input: &mut R, buffer: &mut [u8]) -> io::Result<usize>
+    ensures { IfOk result (λ n. n ≤ length buffer.new) }
+{
+    let mut done = 0;
+    while done < buffer.len() {
+        let n = input.read(&mut buffer[done..])?;
+        if n == 0 {
+            break;
+        }
+        done += n;
+    }
+    Ok(done)
 }
 
 // Runs the cases on standard input: a line for each, then a count.
-pub fn run() {
-    let mut lines = io::large_buffer();
-    let n = io::read_full(0, &mut lines);
+pub fn run(rt: &(impl Input + Print)) -> io::Result<()> {
+    let mut lines = [0u8; MOST];
+    let n = read_full(&mut rt.reader(), &mut lines)?;
     if n == MOST {
-        io::write_all(1, b"too many cases\n");
-        return;
+        return println!(rt; "too many cases");
     }
-    write_count(take_lines(&lines[..n]));
+    write_count(rt, take_lines(rt, &lines[..n])?)
 }

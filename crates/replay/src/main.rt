@@ -1,6 +1,8 @@
 // A fixed list of cases with the Rust's answers: they stand in `stdin`.
 #![tactic(auto)]
 
-fn main() {
-    cases::run();
+use std::io;
+
+fn main(rt: HostRuntime) -> io::Result<()> {
+    cases::run(&rt)
 }
