@@ -2,7 +2,8 @@
 // A line `= validate`, `= canonicalize` or `= merge` says what the cases below it call. A line that begins with # is a remark.
 #![tactic(auto)]
 
-ghost use Rattle.std.specs.Prelude.{◌≤◌, length, IfOk};
+ghost use Rattle.std.specs.Prelude.{◌<◌, ◌≤◌, length, take, IfOk};
+ghost use Rattle.std.specs.Io.KnownBytes.{Consumes, IsAtEnd};
 
 mod buffers;
 mod canonicalizes;
@@ -92,7 +93,9 @@ fn write_count(rt: &impl Print, t: Tally) -> io::Result<()> {
 
 // Reads until the buffer is full or the input ends; answers how many bytes it put at the buffer's start.
 fn read_full<R: Read>(input: &mut R, buffer: &mut [u8]) -> io::Result<usize>
-    ensures { IfOk result (λ n. n ≤ length buffer.new) }
+    ensures within { IfOk result (λ n. n ≤ length buffer.new) }
+    ensures bytes { IfOk result (λ n. Consumes (R.remaining input.old) (R.remaining input.new) (take n buffer.new)) }
+    ensures end { IfOk result (λ n. n < length buffer.new → IsAtEnd (R.remaining input.new)) }
 {
     let mut done = 0;
     while done < buffer.len() {
