@@ -1,7 +1,6 @@
 -- Demand 3: what Cycle, TooDeep and any other answer of a merge say of the joined graph.
 -- Assumes nothing.
-use Rattle.std.specs.Prelude.{ℕ, ◌*◌, ◌≤◌, ◌≡◌, ◌≢◌, ltb, length}
-use Rattle.std.proofs.Math.Path.{refl}
+use Rattle.std.specs.Prelude.{ℕ, ◌*◌, ◌≤◌, ◌≡◌, ltb, length}
 use Rattle.std.proofs.Math.Option.{none}
 use Rattle.std.proofs.Common.{arith, ltb-false, eqb-true}
 use Rattle.std.proofs.lemmas.Bool.{not-false}
@@ -10,17 +9,11 @@ use Rattle.record.proofs.Basics.{either_false}
 use Rattle.record.proofs.Nodes.{length_nodes_of}
 use Rattle.forest.specs.Canonicalize.{root_range, child_range}
 use Rattle.forest.specs.Graph.{far_root, far_child}
-use Rattle.forest.specs.Lent.{Input, Room, most, refuse, first}
-use Rattle.forest.specs.Merge.{node_sum, forests_of, graph, roots_of, merge_checks, merge}
+use Rattle.forest.specs.Lent.{Input, Room, most, first}
+use Rattle.forest.specs.Merge.{node_sum, forests_of, graph, roots_of, merge_checks}
 use Rattle.forest.specs.Validate.{bad_record}
-use Rattle.forest.specs.Walk.{Walked, going, cycle, deep, walk}
-use Rattle.forest.specs.declared.Reply.TheVariants.{Cycle, TooDeep}
 use Rattle.claims.specs.Checks.{first_none, naming_none, when_none}
-use Rattle.claims.specs.PathLaws.{cycle_cycle, deep_long, going_acyclic}
-use Rattle.claims.specs.Paths.{CycleReached, LongPath}
-use Rattle.claims.specs.Ranges.{joined_count, Bounded, long_below, forests_bounded}
-use Rattle.claims.specs.Settled.{settled, past_checks, settled_cycle, settled_deep}
-use Rattle.claims.specs.Walks.{walk_why}
+use Rattle.claims.specs.Ranges.{joined_count, Bounded, forests_bounded}
 
 -- the checks of limit, sizes, records and ranges are passed
 abbrev pub Passes : ℕ → Input → Room → Type 0
@@ -69,26 +62,3 @@ graph_counted limit i m past = joined_count 0 _ _ _ (records_counted limit i m p
 pub bounded : (limit : ℕ) (i : Input) (m : Room) → Passes limit i m → Bounded (node_sum i.table) (graph i) (roots_of i)
 unfolding node_sum graph roots_of forests_of
 bounded limit i m past = let c = checked limit i m past in forests_bounded _ _ _ (records_counted limit i m past) c.near_roots c.near_children
-
-module _ (limit : ℕ) (i : Input) (m : Room) (past : Passes limit i m) where
-  -- Cycle only if a cycle can be reached from some root; the node that is named lies on it
-  pub cycle_only_if : (p : ℕ) → (merge limit i m).reply ≡ Cycle p → (c : CycleReached (graph i) (roots_of i)) × (c.on ≡ p)
-  cycle_only_if p e = cycle_cycle (settled_cycle i m p _ (rw (past_checks limit i m past) at e)) (walk_why (graph i) (roots_of i) limit)
-
-  -- TooDeep only if a path from a root holds more distinct nodes than the limit
-  pub deep_only_if : (p : ℕ) → (merge limit i m).reply ≡ TooDeep p → LongPath (graph i) (roots_of i) limit
-  deep_only_if p e = deep_long (settled_deep i m p _ (rw (past_checks limit i m past) at e)) (walk_why (graph i) (roots_of i) limit)
-
-  -- otherwise no cycle can be reached
-  pub otherwise_none : ((p : ℕ) → (merge limit i m).reply ≢ Cycle p) → ((p : ℕ) → (merge limit i m).reply ≢ TooDeep p) → ¬ CycleReached (graph i) (roots_of i)
-  unfolding settled refuse
-  otherwise_none a b = go (walk (graph i) limit (roots_of i)) refl
-    where
-      go : (w : Walked) → walk (graph i) limit (roots_of i) ≡ w → ¬ CycleReached (graph i) (roots_of i)
-      go (going s) e = going_acyclic e (walk_why (graph i) (roots_of i) limit)
-      go (cycle p) e = absurd (a p (rw (past_checks limit i m past, e)))
-      go (deep p) e = absurd (b p (rw (past_checks limit i m past, e)))
-
-  -- with a limit of at least the node count TooDeep never comes
-  pub never_deep : node_sum i.table ≤ limit → (p : ℕ) → (merge limit i m).reply ≢ TooDeep p
-  never_deep h p e = let k = long_below _ _ _ (bounded limit i m past) limit (deep_only_if p e) in omega arith

@@ -30,4 +30,3 @@ pub mod Merges
 pub mod Delivers
 pub mod Endings
 pub mod Outcomes
-pub mod Demands

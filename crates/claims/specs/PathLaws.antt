@@ -8,9 +8,9 @@ use Rattle.record.specs.Node.{children}
 use Rattle.record.specs.declared.Node.{Node}
 use Rattle.record.proofs.Basics.{clash}
 use Rattle.forest.specs.Graph.{at, replaced_by, listed, next}
-use Rattle.forest.specs.Walk.{State, start, Walked, going, cycle, deep}
-use Rattle.claims.specs.Paths.{Step, child, replaced, Steps, one, more, Path, root, onto, CycleReached, LongPath}
-use Rattle.claims.specs.Walks.{Closed, nothing, after, Came, Why, fine, met, full}
+use Rattle.forest.specs.Walk.{State, Walked, deep}
+use Rattle.claims.specs.Paths.{Step, child, replaced, Steps, one, more, Path, root, onto, LongPath}
+use Rattle.claims.specs.Walks.{Closed, nothing, after, Why, fine, met, full}
 
 pub step_next : (g : List Node) (p q : ℕ) → Step g p q → Memᴰ q (next g p)
 unfolding next listed
@@ -51,7 +51,7 @@ module _ {R : ℕ → ℕ → Type 0} where
   ends_step : {p : ℕ} → Ends R p → (q : ℕ) → R p q → Ends R q
   ends_step (ends k) = k
 
-  path_ends : {roots : List ℕ} {p : ℕ} {l : List ℕ} → ((r : ℕ) → Memᴰ r roots → Ends R r) → Path R roots (p ∷ l) → Ends R p
+  pub path_ends : {roots : List ℕ} {p : ℕ} {l : List ℕ} → ((r : ℕ) → Memᴰ r roots → Ends R r) → Path R roots (p ∷ l) → Ends R p
   path_ends h (root m) = h _ m
   path_ends h (onto w s) = ends_step (path_ends h w) _ s
 
@@ -65,17 +65,7 @@ closed_ends {g} (after {p = h} {l = t} k c) p m = go (Memᴰ.cases_cons m) (clos
 
 -- what each reason comes to
 module _ {g : List Node} {roots : List ℕ} {limit : ℕ} {Q : State → Type 0} where
-  pub cycle_cycle : {w : Walked} {p : ℕ} → w ≡ cycle p → Why g roots limit Q w → (c : CycleReached g roots) × (c.on ≡ p)
-  cycle_cycle e (met {p = q} w m) = (record { on = q; reached = record { way = _; path = w }; back = way_steps w m }, cc)
-  cycle_cycle e (fine q) = absurd (clash (cc))
-  cycle_cycle e (full a b c) = absurd (clash (cc))
-
   pub deep_long : {w : Walked} {p : ℕ} → w ≡ deep p → Why g roots limit Q w → LongPath g roots limit
   deep_long e (full {p = q} {l = l} w u h) = record { way = q ∷ l; path = w; some_of = q ∷ l; distinct = u; held = λ p m. m; more = omega arith }
   deep_long e (fine q) = absurd (clash (cc))
   deep_long e (met a b) = absurd (clash (cc))
-
-pub going_acyclic : {g : List Node} {roots : List ℕ} {limit : ℕ} {s : State} {w : Walked} → w ≡ going s → Why g roots limit (Came g start roots) w → ¬ CycleReached g roots
-going_acyclic e (fine q) c = ends_acyclic (path_ends (λ r m. closed_ends q.closed r (q.ended r m)) c.reached.path) c.back
-going_acyclic e (met a b) c = absurd (clash (cc))
-going_acyclic e (full a b d) c = absurd (clash (cc))

@@ -1,2 +1,2 @@
-// No code: theorems about the definitions of `forest`. Read specs/Demands.antt first.
+// No code: theorems about the definitions of `forest`. Read proofs/Demands.antt first.
 #![tactic(auto)]

@@ -15,14 +15,16 @@ use Rattle.forest.specs.declared.Reply.TheVariants.{Accepted, Cycle, TooDeep, No
 use Rattle.forest.proofs.Examples.{table, Holds, Every, examples}
 use Rattle.claims.specs.Accepting.{canonicalize_cleared, accepted_exactly_if}
 use Rattle.claims.specs.Calls.{Call, lent, outcome, refusals}
-use Rattle.claims.specs.Cycles.{Passes, cycle_only_if, deep_only_if, otherwise_none, never_deep}
+use Rattle.claims.specs.Cycles.{Passes}
+use Rattle.claims.proofs.Cycles.{cycle_only_if, deep_only_if, otherwise_none, never_deep}
 use Rattle.claims.specs.Delivers.{Sane, merge_sane, merge_valid}
 use Rattle.claims.specs.Limits.{larger_limit}
 use Rattle.claims.specs.Outcomes.{Satisfies, one_outcome, first_decides, none_accepts, SameOutputs, refusal_changes_nothing, SamePast, past_unchanged, SameLengths, lengths_stay, work_kept, work_zero}
 use Rattle.claims.specs.Paths.{CycleReached, LongPath, Orderly}
 use Rattle.claims.specs.Refusals.{Refuses, IsAccepted, Numbered, number_of}
 use Rattle.claims.specs.Results.{result_accepted, again, again_accepted}
-use Rattle.claims.specs.Rooms.{Kept, Roomier, more_room, wider}
+use Rattle.claims.specs.Rooms.{Kept, Roomier}
+use Rattle.claims.proofs.Rooms.{more_room, wider}
 
 -- DEMAND 1 ----------------------------------------------------------------------------------------
 -- Whatever bytes, limit and lent room it is given, every entry point ends with acceptance or one numbered refusal, checked in a fixed
