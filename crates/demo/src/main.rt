@@ -1,6 +1,8 @@
-// The demonstration of document 01: merges the files `table`, `nodes` and `roots`. Its data is K4.
+// The demonstration on example K4: merges the files `table`, `nodes` and `roots`.
 #![tactic(auto)]
 
-fn main() {
-    demonstration::run();
+use std::io;
+
+fn main(rt: HostRuntime) -> io::Result<()> {
+    demonstration::run(&rt)
 }

@@ -1,6 +1,8 @@
 // The demonstration with a byte of table too many, and a part word in `roots`, which is looked at later.
 #![tactic(auto)]
 
-fn main() {
-    demonstration::run();
+use std::io;
+
+fn main(rt: HostRuntime) -> io::Result<()> {
+    demonstration::run(&rt)
 }

@@ -1,6 +1,8 @@
 // The demonstration without `roots`, and a byte of table too many, which is looked at later.
 #![tactic(auto)]
 
-fn main() {
-    demonstration::run();
+use std::io;
+
+fn main(rt: HostRuntime) -> io::Result<()> {
+    demonstration::run(&rt)
 }

@@ -1,6 +1,8 @@
 // The demonstration on K5: one position is not in the result.
 #![tactic(auto)]
 
-fn main() {
-    demonstration::run();
+use std::io;
+
+fn main(rt: HostRuntime) -> io::Result<()> {
+    demonstration::run(&rt)
 }

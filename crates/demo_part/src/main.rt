@@ -1,6 +1,8 @@
 // The demonstration on K4 with a byte more in `roots`.
 #![tactic(auto)]
 
-fn main() {
-    demonstration::run();
+use std::io;
+
+fn main(rt: HostRuntime) -> io::Result<()> {
+    demonstration::run(&rt)
 }

@@ -1,6 +1,8 @@
 // The demonstration on K6: a cycle, which is refused.
 #![tactic(auto)]
 
-fn main() {
-    demonstration::run();
+use std::io;
+
+fn main(rt: HostRuntime) -> io::Result<()> {
+    demonstration::run(&rt)
 }

@@ -1,10 +1,13 @@
-// Document 01's demonstration: merges the forests in the files `table`, `nodes` and `roots`, and prints the result.
+// The demonstration: merges the forests in the files `table`, `nodes` and `roots`, and prints the result.
 #![tactic(auto)]
 
-ghost use Rattle.std.specs.Prelude.{◌≤◌};
-ghost use Rattle.io.specs.Counts.{IsPrefixLen};
+ghost use Rattle.std.specs.Prelude.{◌≤◌, IfOk};
+ghost use Rattle.std.specs.Counts.{IsPrefixLen};
 
 use forest::Told;
+use std::io::Read;
+use std::rt::Files;
+use std::{fs, io};
 
 // The depth limit, and how many forests, nodes and roots there is room for.
 const LIMIT: u32 = 256;
@@ -30,44 +33,44 @@ const WORK: usize = NODES * dense_order::WORK_WORDS;
 // The mark for none in an id list.
 const NO_ID: u32 = merger::NO_ID;
 
-// The three files, open; below 0 is one that can't be.
+// The three files, open.
 #[derive(Drop)]
-struct Files {
-    table: i32,
-    nodes: i32,
-    roots: i32,
+struct Inputs<F: Drop> {
+    table: F,
+    nodes: F,
+    roots: F,
 }
 
-// Opens a file. A folder opens and can't be read: then the answer is below 0 too.
-fn open(name: &[u8]) -> i32 {
-    let fd = os::open_read(name);
-    if fd < 0 {
-        return fd;
-    }
+// Opens a file. A folder opens and can't be read, so reading nothing shows whether it is one.
+fn open<R: Files>(rt: &R, name: &str) -> io::Result<R::File> {
+    let mut file = fs::open(rt, name)?;
     let mut nothing = [0u8; 0];
-    if libc::read(fd, &mut nothing) < 0 {
-        -1
-    } else {
-        fd
-    }
+    file.read(&mut nothing)?;
+    Ok(file)
 }
 
 // Opens the three files.
-fn open_all() -> Files {
-    Files {
-        table: open(b"table"),
-        nodes: open(b"nodes"),
-        roots: open(b"roots"),
-    }
+fn open_all<R: Files>(rt: &R) -> io::Result<Inputs<R::File>> {
+    Ok(Inputs {
+        table: open(rt, "table")?,
+        nodes: open(rt, "nodes")?,
+        roots: open(rt, "roots")?,
+    })
 }
 
 // Reads a file to its end, or until the buffer is full, and closes it.
-fn read_whole(fd: i32, buffer: &mut [u8]) -> usize
-    ensures { IsPrefixLen result buffer.new }
+fn read_whole<F: Read + Drop>(mut file: F, buffer: &mut [u8]) -> io::Result<usize>
+    ensures { IfOk result (λ n. IsPrefixLen n buffer.new) }
 {
-    let n = io::read_full(fd, buffer);
-    libc::close(fd);
-    n
+    let mut done = 0;
+    while done < buffer.len() {
+        let n = file.read(&mut buffer[done..])?;
+        if n == 0 {
+            break;
+        }
+        done += n;
+    }
+    Ok(done)
 }
 
 // A count, or the most if it is above that.
@@ -102,51 +105,48 @@ fn read_roots(bytes: &[u8], roots: &mut [u32]) {
 }
 
 // Prints a reply's three numbers on a line.
-fn print_reply(told: Told) {
-    io::print_decimal(1, told.number as u64);
-    io::write_all(1, b" ");
-    io::print_decimal(1, told.first);
-    io::write_all(1, b" ");
-    io::print_decimal(1, told.second);
-    io::write_all(1, b"\n");
+fn print_reply(rt: &impl Print, told: Told) -> io::Result<()> {
+    println!(rt; "{} {} {}", told.number, told.first, told.second)
 }
 
 // Prints a line with a word before a number.
-fn print_id(before: &[u8], id: u32) {
-    io::write_all(1, before);
-    io::print_decimal(1, id as u64);
-    io::write_all(1, b"\n");
+fn print_id(rt: &impl Print, before: &str, id: u32) -> io::Result<()> {
+    println!(rt; "{before} {id}")
 }
 
 // Prints a line for each root.
-fn print_roots(roots: &[u32]) {
-    let mut i = 0;
-    while i < roots.len() {
-        print_id(b"root ", roots[i]);
-        i += 1;
+fn print_roots(rt: &impl Print, roots: &[u32]) -> io::Result<()> {
+    for root in roots {
+        print_id(rt, "root", *root)?;
     }
+    Ok(())
 }
 
 // Prints the line of a position.
-fn print_place(id: u32) {
+fn print_place(rt: &impl Print, id: u32) -> io::Result<()> {
     if id == NO_ID {
-        io::write_all(1, b"map -\n");
+        println!(rt; "map -")
     } else {
-        print_id(b"map ", id);
+        print_id(rt, "map", id)
     }
 }
 
 // Prints a line for each position.
-fn print_map(ids: &[u32]) {
-    let mut i = 0;
-    while i < ids.len() {
-        print_place(ids[i]);
-        i += 1;
+fn print_map(rt: &impl Print, ids: &[u32]) -> io::Result<()> {
+    for id in ids {
+        print_place(rt, *id)?;
     }
+    Ok(())
 }
 
 // Merges, and prints the reply and, if it is accepted, the roots and the map.
-fn merge_into(table: &[u8], nodes: &[u8], roots: &[u32], ids: &mut [u32]) {
+fn merge_into(
+    rt: &impl Print,
+    table: &[u8],
+    nodes: &[u8],
+    roots: &[u32],
+    ids: &mut [u32],
+) -> io::Result<()> {
     let mut node_out = [0u8; NODE_BYTES];
     let mut root_out = [0u32; ROOTS];
     let mut work = [0u32; WORK];
@@ -160,50 +160,47 @@ fn merge_into(table: &[u8], nodes: &[u8], roots: &[u32], ids: &mut [u32]) {
         ids,
         &mut work,
     ));
-    print_reply(told);
-    if told.number != 0 {
-        return;
-    }
+    let accepted = told.number == 0;
     let count = within_words(few(told.second), &root_out);
-    print_roots(&root_out[..count]);
-    print_map(ids);
+    print_reply(rt, told)?;
+    if !accepted {
+        return Ok(());
+    }
+    print_roots(rt, &root_out[..count])?;
+    print_map(rt, ids)
 }
 
 // Merges the forests in three files' bytes.
-fn merge_bytes(table: &[u8], nodes: &[u8], root_bytes: &[u8]) {
+fn merge_bytes(rt: &impl Print, table: &[u8], nodes: &[u8], root_bytes: &[u8]) -> io::Result<()> {
     let mut roots = [0u32; ROOTS];
     read_roots(root_bytes, &mut roots);
     let mut ids = [0u32; NODES];
     let r = within_words(root_bytes.len() / ROOT_SIZE, &roots);
     let n = within_words(nodes.len() / record::SIZE, &ids);
-    merge_into(table, nodes, &roots[..r], &mut ids[..n]);
+    merge_into(rt, table, nodes, &roots[..r], &mut ids[..n])
 }
 
 // Reads three open files, and merges what they hold. Each buffer has a byte more than its file may have.
-fn merge_files(files: Files) {
+fn merge_files<F: Read + Drop>(rt: &impl Print, files: Inputs<F>) -> io::Result<()> {
     let mut table = [0u8; TABLE_BYTES + 1];
     let mut nodes = [0u8; NODE_BYTES + 1];
     let mut roots = [0u8; ROOT_BYTES + 1];
-    let t = read_whole(files.table, &mut table);
-    let n = read_whole(files.nodes, &mut nodes);
-    let r = read_whole(files.roots, &mut roots);
-    if (TABLE_BYTES < t) | (NODE_BYTES < n) | (ROOT_BYTES < r) {
-        io::write_all(1, b"program limit\n");
-        return;
+    let t = read_whole(files.table, &mut table)?;
+    let n = read_whole(files.nodes, &mut nodes)?;
+    let r = read_whole(files.roots, &mut roots)?;
+    if TABLE_BYTES < t || NODE_BYTES < n || ROOT_BYTES < r {
+        return println!(rt; "program limit");
     }
     if r % ROOT_SIZE != 0 {
-        io::write_all(1, b"program input\n");
-        return;
+        return println!(rt; "program input");
     }
-    merge_bytes(&table[..t], &nodes[..n], &roots[..r]);
+    merge_bytes(rt, &table[..t], &nodes[..n], &roots[..r])
 }
 
 // Reads the three files of the folder that it is run in, merges them, and prints the result.
-pub fn run() {
-    let files = open_all();
-    if (files.table < 0) | (files.nodes < 0) | (files.roots < 0) {
-        io::write_all(1, b"program input\n");
-        return;
+pub fn run(rt: &(impl Files + Print)) -> io::Result<()> {
+    match open_all(rt) {
+        Ok(files) => merge_files(rt, files),
+        Err(_) => println!(rt; "program input"),
     }
-    merge_files(files);
 }
