@@ -41,7 +41,7 @@ pub extern "C" fn forest_canonicalize(
 ) -> u32
     ensures { Leaves
         (canonicalize_of
-        (record { table = []; nodes = nodes.entry.now; roots = roots.now })
+        (record { table = []; nodes = nodes.now; roots = roots.now })
         (record { nodes = node_out.old; roots = root_out.old; ids = ids.old; work = work.old }))
         result first.new second.new
         (record { nodes = node_out.new; roots = root_out.new; ids = ids.new; work = work.new }) }
@@ -66,7 +66,7 @@ pub extern "C" fn forest_merge(
 ) -> u32
     ensures { Leaves
         (merge_of limit
-        (record { table = table.entry.now; nodes = nodes.entry.now; roots = roots.now })
+        (record { table = table.now; nodes = nodes.now; roots = roots.now })
         (record { nodes = node_out.old; roots = root_out.old; ids = ids.old; work = work.old }))
         result first.new second.new
         (record { nodes = node_out.new; roots = root_out.new; ids = ids.new; work = work.new }) }
