@@ -44,8 +44,7 @@ struct Inputs<F: Drop> {
 // Opens a file. A folder opens and can't be read, so reading nothing shows whether it is one.
 fn open<R: Files>(rt: &R, name: &str) -> io::Result<R::File> {
     let mut file = fs::open(rt, name)?;
-    let mut nothing = [0u8; 0];
-    file.read(&mut nothing)?;
+    file.read(&mut [])?;
     Ok(file)
 }
 
@@ -105,7 +104,7 @@ fn read_roots(bytes: &[u8], roots: &mut [u32]) {
 }
 
 // Prints a reply's three numbers on a line.
-fn print_reply(rt: &impl Print, told: Told) -> io::Result<()> {
+fn print_reply(rt: &impl Print, told: &Told) -> io::Result<()> {
     println!(rt; "{} {} {}", told.number, told.first, told.second)
 }
 
@@ -160,12 +159,11 @@ fn merge_into(
         ids,
         &mut work,
     ));
-    let accepted = told.number == 0;
-    let count = within_words(few(told.second), &root_out);
-    print_reply(rt, told)?;
-    if !accepted {
+    print_reply(rt, &told)?;
+    if told.number != 0 {
         return Ok(());
     }
+    let count = within_words(few(told.second), &root_out);
     print_roots(rt, &root_out[..count])?;
     print_map(rt, ids)
 }
