@@ -1,7 +1,7 @@
 // The demonstration: merges the forests in the files `table`, `nodes` and `roots`, and prints the result.
 #![tactic(auto)]
 
-ghost use Rattle.std.specs.Prelude.{◌≤◌, IfOk};
+ghost use Rattle.std.specs.Prelude.{◌≡◌, ◌≤◌, length, take, IfOk, IfSome};
 ghost use Rattle.std.specs.Counts.{IsPrefixLen};
 
 use forest::Told;
@@ -59,7 +59,8 @@ fn open_all<R: Files>(rt: &R) -> io::Result<Inputs<R::File>> {
 
 // Reads a file to its end, or until the buffer is full, and closes it.
 fn read_whole<F: Read + Drop>(mut file: F, buffer: &mut [u8]) -> io::Result<usize>
-    ensures { IfOk result (λ n. IsPrefixLen n buffer.new) }
+    ensures count { IfOk result (λ n. IsPrefixLen n buffer.new) }
+    ensures bytes { IfOk result (λ n. IfSome (F.remaining file) (λ xs. take n buffer.new ≡ take (length buffer.new) xs)) }
 {
     let mut done = 0;
     while done < buffer.len() {
