@@ -17,7 +17,7 @@ pub open_node-returns-then-state-eq1 : goal.open_node-returns-then-state-eq1
 open_node-returns-then-state-eq1 t c = λ g path u q. takes_met q _ c.requires.p_lt_n _ c.if-state-eq1.true
 
 pub open_node-returns-then-left-eq0 : goal.open_node-returns-then-left-eq0
-open_node-returns-then-left-eq0 t c = λ g path u q. takes_deep q _ c.requires.p_lt_n _ (omega (arith, c.if-state-eq1.false)) c.if-left-eq0.true
+open_node-returns-then-left-eq0 t c = λ g path u q. takes_deep q _ c.requires.p_lt_n _ (omega arith) c.if-left-eq0.true
 
 pub open_node-bounds-work-p-2 : goal.open_node-bounds-work-p-2
 open_node-bounds-work-p-2 t c = let r = c.requires.somewhere.stands.charted.mapped.room in omega (arith, c.requires.p_lt_n)
