@@ -1,4 +1,5 @@
 // The buffers that a case lends, with a mark in each place, and what they hold afterwards.
+ghost use Rattle.std.specs.Counts.{IsPrefixLen};
 ghost use Rattle.std.specs.Prelude.{◌≡◌, ◌≤◌, length};
 
 // Room for the records of 16 nodes, and for their work words and some more.
@@ -20,14 +21,14 @@ pub(crate) fn within(n: usize, most: usize) -> usize
 
 // A count of a buffer's bytes.
 pub(crate) fn within_bytes(n: usize, buffer: &[u8]) -> usize
-    ensures { result ≤ length buffer.now }
+    ensures { IsPrefixLen result buffer.now }
 {
     within(n, buffer.len())
 }
 
 // A count of a buffer's words.
 pub(crate) fn within_words(n: usize, buffer: &[u32]) -> usize
-    ensures { result ≤ length buffer.now }
+    ensures { IsPrefixLen result buffer.now }
 {
     within(n, buffer.len())
 }

@@ -2,7 +2,7 @@
 // A line `= validate`, `= canonicalize` or `= merge` says what the cases below it call. A line that begins with # is a remark.
 #![tactic(auto)]
 
-ghost use Rattle.std.specs.Prelude.{◌<◌, ◌≤◌, length, take, IfOk};
+ghost use Rattle.std.specs.Prelude.{◌≡◌, ◌<◌, ◌≤◌, length, take, IfOk, OnErr};
 ghost use Rattle.std.specs.Io.KnownBytes.{Consumes, IsAtEnd};
 
 mod buffers;
@@ -95,6 +95,7 @@ fn write_count(rt: &impl Print, t: Tally) -> io::Result<()> {
 fn read_full<R: Read>(input: &mut R, buffer: &mut [u8]) -> io::Result<usize>
     ensures within { IfOk result (λ n. n ≤ length buffer.new) }
     ensures bytes { IfOk result (λ n. Consumes (R.remaining input.old) (R.remaining input.new) (take n buffer.new)) }
+    ensures err { OnErr result (length buffer.new ≡ length buffer.old) }
     ensures end { IfOk result (λ n. n < length buffer.new → IsAtEnd (R.remaining input.new)) }
 {
     let mut done = 0;

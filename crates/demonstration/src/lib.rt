@@ -1,7 +1,7 @@
 // The demonstration: merges the forests in the files `table`, `nodes` and `roots`, and prints the result.
 #![tactic(auto)]
 
-ghost use Rattle.std.specs.Prelude.{◌≡◌, ◌≤◌, length, take, IfOk, IfSome};
+ghost use Rattle.std.specs.Prelude.{◌≡◌, ◌≤◌, length, take, IfOk, OnErr, IfSome};
 ghost use Rattle.std.specs.Counts.{IsPrefixLen};
 
 use forest::Told;
@@ -57,9 +57,10 @@ fn open_all<R: Files>(rt: &R) -> io::Result<Inputs<R::File>> {
     })
 }
 
-// Reads a file to its end, or until the buffer is full, and closes it.
+// Reads a file to its end, or until the buffer is full, and closes it. After an error the buffer may hold a part of the file.
 fn read_whole<F: Read + Drop>(mut file: F, buffer: &mut [u8]) -> io::Result<usize>
     ensures count { IfOk result (λ n. IsPrefixLen n buffer.new) }
+    ensures err { OnErr result (length buffer.new ≡ length buffer.old) }
     ensures bytes { IfOk result (λ n. IfSome (F.remaining file) (λ xs. take n buffer.new ≡ take (length buffer.new) xs)) }
 {
     let mut done = 0;
