@@ -1,5 +1,5 @@
 /*
- * The forest merge for callers in C and C++. Link with crates/abi/out/libabi.a, for x86-64.
+ * The forest merge for callers in C and C++. Link with target/staticlib/libabi.a, for x86-64.
  * Records, checks and replies are described in docs/MANUAL.md.
  *
  * Lengths. Each buffer is a pointer and a number of elements: bytes for uint8_t, words for uint32_t.

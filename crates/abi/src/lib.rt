@@ -1,4 +1,4 @@
-// The entry points for callers in C and Rust: slices as pointer and length, the reply as its number and two values.
+// The entry points as C has them: slices as pointer and length, the reply as its number and two values. `abi_c` exports them.
 #![tactic(auto)]
 
 ghost use Rattle.std.specs.Prelude.{◌≡◌, []};
@@ -20,16 +20,14 @@ fn answer(reply: Reply, first: &mut u64, second: &mut u64) -> u32
 }
 
 // Whether node records stand in dense order.
-#[unsafe(no_mangle)]
-pub extern "C" fn forest_validate(nodes: &[u8], first: &mut u64, second: &mut u64) -> u32
+pub fn forest_validate(nodes: &[u8], first: &mut u64, second: &mut u64) -> u32
     ensures { Tells (validate_of nodes.now) result first.new second.new }
 {
     answer(dense_order::validate(nodes), first, second)
 }
 
 // One forest in its canonical order.
-#[unsafe(no_mangle)]
-pub extern "C" fn forest_canonicalize(
+pub fn forest_canonicalize(
     nodes: &[u8],
     roots: &[u32],
     node_out: &mut [u8],
@@ -51,8 +49,7 @@ pub extern "C" fn forest_canonicalize(
 }
 
 // Many forests into one.
-#[unsafe(no_mangle)]
-pub extern "C" fn forest_merge(
+pub fn forest_merge(
     table: &[u8],
     nodes: &[u8],
     roots: &[u32],

@@ -40,7 +40,7 @@ fn a_program_in_c() {
         .args(["-std=c99", "-Wall", "-Wextra", "-Werror", "-I"])
         .arg(package)
         .arg(&source)
-        .arg(package.join("../crates/abi/out/libabi.a"))
+        .arg(package.join("../target/staticlib/libabi.a"))
         .arg("-o")
         .arg(&program)
         .output()

@@ -76,8 +76,8 @@ walk_below-offset_bounds-work-q t c =
 
 pub walk_below-bounds-work-q : goal.walk_below-bounds-work-q
 walk_below-bounds-work-q t c =
-    let z : ◌<◌ c.in-At.q c.args.n = replacement_low c.requires.inside.stands c.requires.p_lt_n c.args.left _ c.node_at-node.ensures c.if-node-eq-EXTERNAL.true _ c.replacement-found.ensures _ c.in-At.is in
-    omega (arith, z, c.requires.inside.stands.charted.mapped.room, c.open_node-went.auto.work)
+    let low : ◌<◌ c.in-At.q c.args.n = replacement_low c.requires.inside.stands c.requires.p_lt_n c.args.left _ c.node_at-node.ensures c.if-node-eq-EXTERNAL.true _ c.replacement-found.ensures _ c.in-At.is in
+    omega (arith, low, c.requires.inside.stands.charted.mapped.room, c.open_node-went.auto.work)
 
 pub walk_below-offset_bounds-work-p : goal.walk_below-offset_bounds-work-p
 walk_below-offset_bounds-work-p t c = omega (arith, c.requires.p_lt_n, c.requires.inside.stands.charted.mapped.few)
@@ -119,8 +119,8 @@ walk_below-overflow_cast-kids t c =
 pub walk_below-overflow_add-base-in-loop-i : goal.walk_below-overflow_add-base-in-loop-i
 walk_below-overflow_add-base-in-loop-i t c =
     let a = c.requires.inside in
-    let z = child_low c.requires.p_lt_n _ c.node_at-node.ensures c.if-node-eq-EXTERNAL.false a.stands (c.loop-i.invariant.gone a.graph a.path a.state a.stands) c.loop-i-test.true _ refl in
-    omega (arith, z, a.stands.charted.mapped.few)
+    let low = child_low c.requires.p_lt_n _ c.node_at-node.ensures c.if-node-eq-EXTERNAL.false a.stands (c.loop-i.invariant.gone a.graph a.path a.state a.stands) c.loop-i-test.true _ refl in
+    omega (arith, low, a.stands.charted.mapped.few)
 
 pub walk_below-open_node-went-requires-in-loop-i : goal.walk_below-open_node-went-requires-in-loop-i
 walk_below-open_node-went-requires-in-loop-i t c =
