@@ -110,9 +110,8 @@ fn called(
     work: &mut [u32],
 ) -> Finding {
     let told = forest::tell(dense_order::canonicalize(nodes, roots, node_out, root_out, ids, work));
-    let accepted = told.number == 0;
     let finding = compared(case, told, node_out, root_out, ids, work);
-    if !accepted {
+    if told.number != 0 {
         return finding;
     }
     match finding {

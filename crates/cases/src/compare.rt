@@ -50,7 +50,7 @@ fn wanted(case: &[u8]) -> Told {
 }
 
 // Whether a reply has the number and the values that a case asks for.
-pub(crate) fn reply_is(case: &[u8], told: &Told) -> bool {
+pub(crate) fn reply_is(case: &[u8], told: Told) -> bool {
     let want = wanted(case);
     (told.number == want.number) & (told.first == want.first) & (told.second == want.second)
 }
@@ -97,9 +97,8 @@ pub(crate) fn compared(
     ids: &[u32],
     work: &[u32],
 ) -> Finding {
-    let number = told.number;
-    let accepted = number == 0;
-    if !reply_is(case, &told) {
+    let accepted = told.number == 0;
+    if !reply_is(case, told) {
         return Finding::Reply(told);
     }
     if !node_output_is(case, accepted, node_out) {
@@ -111,7 +110,7 @@ pub(crate) fn compared(
     if !word_output_is(case, accepted, IDS, ids) {
         return Finding::Buffer(6);
     }
-    if work_is(number, work) {
+    if work_is(told.number, work) {
         Finding::Right
     } else {
         Finding::Buffer(7)

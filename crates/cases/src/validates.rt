@@ -24,7 +24,7 @@ pub(crate) fn run(case: &[u8]) -> Finding {
     let n = read_nodes(case, section(case, LENT), &mut nodes, 0);
     let end = within_bytes(length_of(case, n), &nodes);
     let told = forest::tell(dense_order::validate(&nodes[..end]));
-    if reply_is(case, &told) {
+    if reply_is(case, told) {
         Finding::Right
     } else {
         Finding::Reply(told)

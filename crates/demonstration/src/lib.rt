@@ -106,7 +106,7 @@ fn read_roots(bytes: &[u8], roots: &mut [u32]) {
 }
 
 // Prints a reply's three numbers on a line.
-fn print_reply(rt: &impl Print, told: &Told) -> io::Result<()> {
+fn print_reply(rt: &impl Print, told: Told) -> io::Result<()> {
     println!(rt; "{} {} {}", told.number, told.first, told.second)
 }
 
@@ -161,7 +161,7 @@ fn merge_into(
         ids,
         &mut work,
     ));
-    print_reply(rt, &told)?;
+    print_reply(rt, told)?;
     if told.number != 0 {
         return Ok(());
     }
@@ -188,7 +188,7 @@ fn merge_files<F: Read + Drop>(rt: &impl Print, files: Inputs<F>) -> io::Result<
     let t = read_whole(files.table, &mut table)?;
     let n = read_whole(files.nodes, &mut nodes)?;
     let r = read_whole(files.roots, &mut roots)?;
-    if TABLE_BYTES < t || NODE_BYTES < n || ROOT_BYTES < r {
+    if (TABLE_BYTES < t) | (NODE_BYTES < n) | (ROOT_BYTES < r) {
         return println!(rt; "program limit");
     }
     if r % ROOT_SIZE != 0 {
