@@ -4,7 +4,8 @@
 Run once, at the top. It takes the names that specs/ and proofs/ declare and that hold a capital or a dash
 behind a small first letter, and writes them with `_`, wherever they stand: in specs/, proofs/, the clauses
 of src/ and the text of must-fail edits. Functions of src/, exported C names, strings, inputs and outputs
-hold no such name. It stops where a new name stands somewhere already; NEW says what such a name becomes.
+hold no such name. It prints each new name that stands somewhere already; NEW says what such a name becomes
+instead. With --list it prints all names, with --write it turns them.
 """
 import pathlib
 import re

@@ -1,4 +1,4 @@
--- Demand 3: what Cycle, TooDeep and any other answer of a merge say of the joined graph.
+-- Demand 3: what a merge past its first checks has found of its input. What its answers say stands in proofs/Cycles.
 -- Assumes nothing.
 use Rattle.std.specs.Prelude.{ℕ, ◌*◌, ◌≤◌, ◌≡◌, ltb, length}
 use Rattle.std.proofs.Math.Option.{none}

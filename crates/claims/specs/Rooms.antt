@@ -1,4 +1,4 @@
--- Demand 3: more output room changes no answer but NoRoom, and what was accepted keeps its records, roots and id list.
+-- Demand 3: more output room, and what an accepted outcome keeps. The theorems on them stand in proofs/Rooms.
 -- Assumes nothing.
 use Rattle.std.specs.Prelude.{ℕ, ◌*◌, ◌≤◌, ◌≡◌, List, length, take}
 use Rattle.std.proofs.Common.{take_at}
