@@ -1,8 +1,7 @@
 -- The three demands in their order, then what Canonicalize and Merge promise. Each statement cites its theorem.
 -- The words: `outcome`, `lent` and `refusals` of a call are in Calls, steps, paths and cycles in Paths, all else in the crate `forest`.
 -- Assumes nothing.
-use Rattle.std.specs.Prelude.{ℕ, ◌*◌, ◌≤◌, ◌≡◌, true, false, ◌≢◌, ◌↔◌, length, take, replicate}
-use Rattle.std.proofs.Math.Option.{some, none}
+use Rattle.std.specs.Prelude.{ℕ, ◌*◌, ◌≤◌, ◌≡◌, true, false, ◌≢◌, ◌↔◌, length, take, replicate, Some, None}
 use Rattle.record.specs.Lists.{run}
 use Rattle.record.specs.Node.{size, nodes_of}
 use Rattle.record.proofs.RoundTrip.{Octets}
@@ -36,11 +35,11 @@ module _ (c : Call) (i : Input) (m : Room) where
   reply_numbered = number_of (outcome c i m).reply
 
   -- the first refusal of the call's list that applies is the reply
-  pub in_order : (r : Reply) → first (refusals c i m) ≡ some r → (outcome c i m).reply ≡ r
+  pub in_order : (r : Reply) → first (refusals c i m) ≡ Some r → (outcome c i m).reply ≡ r
   in_order = first_decides c i m
 
   -- if none applies the call is accepted
-  pub or_accepted_lem : first (refusals c i m) ≡ none → IsAccepted (outcome c i m)
+  pub or_accepted_lem : first (refusals c i m) ≡ None → IsAccepted (outcome c i m)
   or_accepted_lem = none_accepts c i m
 
   -- a refused call leaves every output as it found it
@@ -120,7 +119,7 @@ merge_passes limit i m octets n k e = merge_valid limit i m (record { nodes = n;
 -- CANONICALIZE ------------------------------------------------------------------------------------
 
 -- With the checks before it met, it is accepted exactly if external digests differ, children are in range and no cycle runs through them.
-pub canonicalize_accepts : (i : Input) (m : Room) → first (canonicalize_checks i m) ≡ none → IsAccepted (canonicalize i m) ↔ Orderly (nodes_of i.nodes)
+pub canonicalize_accepts : (i : Input) (m : Room) → first (canonicalize_checks i m) ≡ None → IsAccepted (canonicalize i m) ↔ Orderly (nodes_of i.nodes)
 canonicalize_accepts = accepted_exactly_if
 
 module _ (i : Input) (m : Room) (octets : Octets i.nodes) (accepted : IsAccepted (canonicalize i m)) where
@@ -129,7 +128,7 @@ module _ (i : Input) (m : Room) (octets : Octets i.nodes) (accepted : IsAccepted
   canonicalize_valid = result_accepted i m (canonicalize_cleared i m accepted) octets
 
   -- canonicalizing that again is accepted wherever its checks are met,
-  pub canonicalize_again : (j : Input) (r : Room) → j.nodes ≡ (canonicalize i m).room.nodes → first (canonicalize_checks j r) ≡ none → IsAccepted (canonicalize j r)
+  pub canonicalize_again : (j : Input) (r : Room) → j.nodes ≡ (canonicalize i m).room.nodes → first (canonicalize_checks j r) ≡ None → IsAccepted (canonicalize j r)
   canonicalize_again = again_accepted i m (canonicalize_cleared i m accepted) octets
 
   -- and changes no id.

@@ -1,13 +1,12 @@
 -- What passes Validate's tests is in canonical order already: canonicalizing it changes no id.
 -- Assumes nothing.
 use Prim.Native.Nat.{ℕ, zero, suc, ◌+◌, ◌-◌, ◌<◌, ◌≤◌}
-use Rattle.std.specs.Prelude.{◌≡◌, Bool, not, ◌&&◌, ◌⊎◌, ◌≢◌, leb, eqb, get_or}
+use Rattle.std.specs.Prelude.{◌≡◌, Bool, not, ◌&&◌, ◌⊎◌, ◌≢◌, leb, eqb, get_or, Some, None}
 use Rattle.std.proofs.Math.Path.{refl}
 use Rattle.std.proofs.Common.{sym, ◌∙◌, ap, inl, inr}
 use Rattle.std.proofs.Math.Bool.{true, false}
 use mathlib.Core.List.Memᴰ
 use mathlib.Core.List.{List, [], ◌∷◌, ◌++◌, map, Memᴰ}
-use Rattle.std.proofs.Math.Option.{some, none}
 use native.Mathlib.Omega.{arith}
 use borrow.Author.Tests.{leb-false, eqb-false, eq-eqb, ne_eqb}
 use Rattle.std.proofs.Math.ListN.{length}
@@ -34,7 +33,7 @@ use Rattle.claims.specs.Sorts.{Linked, linked_nil, linked_one, linked, linked_re
 
 -- FROM VALIDATE'S FAULTS TO POSITIONS -----------------------------------------------------------
 
-faults_at : (i : ℕ) (n : Node) (ms : List Node) (d : Node) → first (faults i n ms) ≡ none → (j : ℕ) → j < length ms → fault (i + j) (get_or (n ∷ ms) j d) (get_or ms j d) ≡ none
+faults_at : (i : ℕ) (n : Node) (ms : List Node) (d : Node) → first (faults i n ms) ≡ None → (j : ℕ) → j < length ms → fault (i + j) (get_or (n ∷ ms) j d) (get_or ms j d) ≡ None
 unfolding faults
 faults_at i n [] d e j h = absurd (omega arith)
 faults_at i n (m ∷ ms) d e zero h = let q : i + 0 ≡ i = omega arith in rw q (first_none _ _ e).0
@@ -45,7 +44,7 @@ pub record Valid (g : List Node) : Type 0 where
   pub follows : (p : ℕ) → suc p < length g → May g p (suc p)
   pub kids : (p c : ℕ) → HasChild g p c → c < p
 
-pub valid : (g : List Node) → first (node_faults g) ≡ none → Valid g
+pub valid : (g : List Node) → first (node_faults g) ≡ None → Valid g
 unfolding node_faults forward at no_node children
 valid [] e = record { follows = λ p h. absurd (omega arith); kids = λ p c k. absurd (Memᴰ.not-nil k) }
 valid (m ∷ ms) e = record { follows = λ p h. follow p (facts p (omega arith)); kids = λ p c k. kid p c k (parent_below (m ∷ ms) p c k) }
@@ -199,7 +198,7 @@ module _ (g : List Node) where
     released_run zero k (suc j) e h b = absurd (omega arith)
     released_run (suc m) k zero e h b = rw (none_lowest (ready g (run 0 k)) (ids g) (λ x n. let (p, q) = run_in 0 (length g) x n in ready_before k x (omega arith)), released)
     released_run (suc m) k (suc j) e h b =
-        let f : lowest (ready g (run 0 k)) (ids g) ≡ some k = lowest_at (ready g (run 0 k)) 0 (length g) k (λ x n. ready_before k x (omega arith)) (let z : 0 + k ≡ k = omega arith in rw z (ready_next k (omega arith) b)) (omega arith) in
+        let f : lowest (ready g (run 0 k)) (ids g) ≡ Some k = lowest_at (ready g (run 0 k)) 0 (length g) k (λ x n. ready_before k x (omega arith)) (let z : 0 + k ≡ k = omega arith in rw z (ready_next k (omega arith) b)) (omega arith) in
         let s : run 0 k ++ k ∷ [] ≡ run 0 (suc k) = (let z : 0 + k ≡ k = omega arith in rw z at (run_snoc 0 k)) in
         rw (f, released, s) (ap {B = List ℕ} (λ l. k ∷ l) (released_run m (suc k) j (omega arith) (omega arith) (omega arith)))
 
@@ -220,7 +219,7 @@ map_place : (n : ℕ) (l : List ℕ) → ((x : ℕ) → Memᴰ x l → x < n) �
 map_place n [] h = refl
 map_place n (x ∷ l) h = rw (place_run n x (h x (Memᴰ.head refl)), map_place n l (λ y m. h y (Memᴰ.tail m)))
 
-pub ids_stay : (g : List Node) → first (node_faults g) ≡ none → map (place_in (order g)) (ids g) ≡ ids g
+pub ids_stay : (g : List Node) → first (node_faults g) ≡ None → map (place_in (order g)) (ids g) ≡ ids g
 unfolding ids
 ids_stay g e = rw (order_ids g (valid g e)) (map_place (length g) (run 0 (length g)) (λ x m. let (a, b) = run_in 0 (length g) x m in omega arith))
 

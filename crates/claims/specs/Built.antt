@@ -1,10 +1,9 @@
 -- Merged nodes in the order in which they were appended: children first, no two equal, and all of them in the canonical order.
 -- Assumes nothing.
-use Rattle.std.specs.Prelude.{ℕ, ◌<◌, ◌≤◌, ◌≡◌, refl, true, false, ◌⊎◌, length}
+use Rattle.std.specs.Prelude.{ℕ, ◌<◌, ◌≤◌, ◌≡◌, refl, true, false, ◌⊎◌, length, None}
 use Rattle.std.proofs.Common.{sym, ◌∙◌, ap, inl, inr, arith, length-append}
 use mathlib.Core.List.Memᴰ
 use mathlib.Core.List.{List, [], ◌∷◌, ◌++◌, Memᴰ}
-use Rattle.std.proofs.Math.Option.{none}
 use Rattle.std.proofs.Math.Decide.{dec_lt, ℕ_discrete}
 use Rattle.std.proofs.lemmas.List.{length-map}
 use Rattle.std.proofs.Math.ListN.{get_or-append}
@@ -112,7 +111,7 @@ module _ (l : List Node) (b : Built l) (bare : Bare l) where
   pub built_in : (p : ℕ) → p < length l → Memᴰ p (order l)
   built_in p h = has_in p (order l) (order_all l built_orderly.inside built_orderly.acyclic p h)
 
-  pub built_passes : first (node_faults (arranged l (order l))) ≡ none
+  pub built_passes : first (node_faults (arranged l (order l))) ≡ None
   built_passes = result_passes l bare (repeat_none l _ (externals_distinct l) (λ p q m n e. let (x, u) = externals_in l p m in let (y, v) = externals_in l q n in built_orderly.differ p q u v x y e))
 
 module _ (n : ℕ) (g : List Node) (roots : List ℕ) (w : Bounded n g roots) where

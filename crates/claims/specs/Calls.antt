@@ -1,7 +1,6 @@
 -- The three calls as one: which call it is, what it is lent, and its outcome.
 -- Assumes nothing: these are definitions.
-use Rattle.std.specs.Prelude.{ℕ, List, []}
-use Rattle.std.proofs.Math.Option.{Option}
+use Rattle.std.specs.Prelude.{ℕ, List, [], Option}
 use Rattle.forest.specs.Canonicalize.{canonicalize_refusals, canonicalize}
 use Rattle.forest.specs.Lent.{Input, Room, Outcome}
 use Rattle.forest.specs.Merge.{graph, roots_of, state_of, merge_refusals, merged, merge}

@@ -1,7 +1,6 @@
 -- Demand 3: what a merge past its first checks has found of its input. What its answers say stands in proofs/Cycles.
 -- Assumes nothing.
-use Rattle.std.specs.Prelude.{ℕ, ◌*◌, ◌≤◌, ◌≡◌, ltb, length}
-use Rattle.std.proofs.Math.Option.{none}
+use Rattle.std.specs.Prelude.{ℕ, ◌*◌, ◌≤◌, ◌≡◌, ltb, length, None}
 use Rattle.std.proofs.Common.{arith, ltb-false, eqb-true}
 use Rattle.std.proofs.lemmas.Bool.{not-false}
 use Rattle.record.specs.Node.{size, nodes_of}
@@ -17,16 +16,16 @@ use Rattle.claims.specs.Ranges.{joined_count, Bounded, forests_bounded}
 
 -- the checks of limit, sizes, records and ranges are passed
 abbrev pub Passes : ℕ → Input → Room → Type 0
-Passes limit i m = first (merge_checks limit i m) ≡ none
+Passes limit i m = first (merge_checks limit i m) ≡ None
 
 -- what the checks found of sizes, records and ranges
 pub record Checked (i : Input) (m : Room) : Type 0 where
   pub few : node_sum i.table ≤ most
   pub nodes_long : length i.nodes ≡ size * node_sum i.table
   pub ids_long : length m.ids ≡ node_sum i.table
-  pub good : bad_record i.nodes ≡ none
-  pub near_roots : far_root (forests_of i) ≡ none
-  pub near_children : far_child (forests_of i) ≡ none
+  pub good : bad_record i.nodes ≡ None
+  pub near_roots : far_root (forests_of i) ≡ None
+  pub near_children : far_child (forests_of i) ≡ None
 
 pub checked : (limit : ℕ) (i : Input) (m : Room) → Passes limit i m → Checked i m
 unfolding merge_checks root_range child_range

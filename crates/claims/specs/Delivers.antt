@@ -1,10 +1,9 @@
 -- What an accepted merge wrote.
 -- Assumes nothing.
-use Rattle.std.specs.Prelude.{ℕ, ◌*◌, ◌<◌, ◌≤◌, ◌≡◌, true, ◌⊎◌, take}
+use Rattle.std.specs.Prelude.{ℕ, ◌*◌, ◌<◌, ◌≤◌, ◌≡◌, true, ◌⊎◌, take, None}
 use Rattle.std.proofs.Math.Path.{refl, ap}
 use Rattle.std.proofs.Common.{◌∙◌}
 use mathlib.Core.List.{Memᴰ}
-use Rattle.std.proofs.Math.Option.{none}
 use Rattle.std.proofs.Math.ListN.{length}
 use Rattle.record.specs.Lists.{flat}
 use Rattle.record.specs.Node.{size, node_bytes, same_node}
@@ -33,10 +32,10 @@ pub record Sane (i : Input) (r : Result) : Type 0 where
   pub children_in : (p c : ℕ) → HasChild r.nodes p c → c < length r.nodes
   pub roots_in : (x : ℕ) → Memᴰ x r.roots → x < length r.nodes
   pub ids_in : (x : ℕ) → Memᴰ x r.ids → (x ≡ no_id) ⊎ (x < length r.nodes)
-  pub passes : first (node_faults r.nodes) ≡ none
+  pub passes : first (node_faults r.nodes) ≡ None
 
 module _ (limit : ℕ) (i : Input) (m : Room) (a : IsAccepted (merge limit i m)) where
-  nothing_refused : first (merge_refusals limit i m (walk (graph i) limit (roots_of i)) (merged (graph i) (roots_of i) (state_of (walk (graph i) limit (roots_of i))))) ≡ none
+  nothing_refused : first (merge_refusals limit i m (walk (graph i) limit (roots_of i)) (merged (graph i) (roots_of i) (state_of (walk (graph i) limit (roots_of i))))) ≡ None
   unfolding merge
   nothing_refused = accepted_past m _ (merged (graph i) (roots_of i) (state_of (walk (graph i) limit (roots_of i)))) (merge_refuses limit i m (walk (graph i) limit (roots_of i)) _) a
 
@@ -48,7 +47,7 @@ module _ (limit : ℕ) (i : Input) (m : Room) (a : IsAccepted (merge limit i m))
   unfolding merge_refusals
   accepted_passes = (first_both (merge_checks limit i m) _ nothing_refused).0
 
-  not_stopped_at : stopped (walk (graph i) limit (roots_of i)) ≡ none
+  not_stopped_at : stopped (walk (graph i) limit (roots_of i)) ≡ None
   unfolding merge_refusals
   not_stopped_at = (first_none _ _ (first_both (merge_checks limit i m) _ nothing_refused).1).0
 
@@ -57,7 +56,7 @@ module _ (limit : ℕ) (i : Input) (m : Room) (a : IsAccepted (merge limit i m))
   unfolding stopped state_of
   merge_sane = go (walk (graph i) limit (roots_of i)) refl not_stopped_at accepted_result
     where
-      go : (w : Walked) → walk (graph i) limit (roots_of i) ≡ w → stopped w ≡ none → merge limit i m ≡ accept m (merged (graph i) (roots_of i) (state_of w)) → (r : Result) × (merge limit i m ≡ accept m r) × Sane i r
+      go : (w : Walked) → walk (graph i) limit (roots_of i) ≡ w → stopped w ≡ None → merge limit i m ≡ accept m (merged (graph i) (roots_of i) (state_of w)) → (r : Result) × (merge limit i m ≡ accept m r) × Sane i r
       go (going s) q h e = (
         merged (graph i) (roots_of i) s,
         e,
@@ -80,7 +79,7 @@ module _ (limit : ℕ) (i : Input) (m : Room) (a : IsAccepted (merge limit i m))
   unfolding stopped state_of accept
   merge_valid octets n k h = go (walk (graph i) limit (roots_of i)) refl not_stopped_at accepted_result
     where
-      go : (w : Walked) → walk (graph i) limit (roots_of i) ≡ w → stopped w ≡ none → merge limit i m ≡ accept m (merged (graph i) (roots_of i) (state_of w))
+      go : (w : Walked) → walk (graph i) limit (roots_of i) ≡ w → stopped w ≡ None → merge limit i m ≡ accept m (merged (graph i) (roots_of i) (state_of w))
           → validate (take (size * n) (merge limit i m).room.nodes) ≡ Accepted n 0
       go (going s) q f e =
           let z : Accepted (length (merged (graph i) (roots_of i) s).nodes) (length (merged (graph i) (roots_of i) s).roots) ≡ Accepted n k = rw e at h in

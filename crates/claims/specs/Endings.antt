@@ -1,10 +1,9 @@
 -- How every call ends: with the first refusal that applies, or with a result that fits.
 -- Assumes nothing.
-use Rattle.std.specs.Prelude.{ℕ, ◌*◌, ◌/◌, ◌≤◌, ◌≡◌, Bool, true, ◌||◌, []}
+use Rattle.std.specs.Prelude.{ℕ, ◌*◌, ◌/◌, ◌≤◌, ◌≡◌, Bool, true, ◌||◌, [], Option, Some, None}
 use Rattle.std.proofs.Math.Path.{refl, sym}
 use Rattle.std.proofs.Common.{◌∙◌, arith}
 use Rattle.std.proofs.Math.Bool.{false}
-use Rattle.std.proofs.Math.Option.{Option, some, none}
 use Rattle.std.proofs.Math.Dec.{ltb}
 use borrow.Author.Tests.{ltb-false}
 use Rattle.std.proofs.Math.ListN.{length, length-map}
@@ -38,9 +37,9 @@ pub record Fitted (m : Room) (r : Result) : Type 0 where
 
 -- a call ends with the first refusal of its list, which changes no output, or with a result, of which Validate writes nothing
 pub data Ending (c : Call) (i : Input) (m : Room) : Type 0 where
-  refused : (r : Reply) → first (refusals c i m) ≡ some r → Refuses r → outcome c i m ≡ refuse (lent c m) r → Ending c i m
-  delivered : (r : Result) → first (refusals c i m) ≡ none → Fitted (lent c m) r → outcome c i m ≡ accept (lent c m) r → Ending c i m
-  validated : (n : ℕ) → first (refusals c i m) ≡ none → lent c m ≡ no_room → outcome c i m ≡ record { reply = Accepted n 0; room = no_room } → Ending c i m
+  refused : (r : Reply) → first (refusals c i m) ≡ Some r → Refuses r → outcome c i m ≡ refuse (lent c m) r → Ending c i m
+  delivered : (r : Result) → first (refusals c i m) ≡ None → Fitted (lent c m) r → outcome c i m ≡ accept (lent c m) r → Ending c i m
+  validated : (n : ℕ) → first (refusals c i m) ≡ None → lent c m ≡ no_room → outcome c i m ≡ record { reply = Accepted n 0; room = no_room } → Ending c i m
 
 -- no work room stays none
 pub worked_none : (r : Reply) → worked r [] ≡ []
@@ -57,22 +56,22 @@ module _ (i : Input) (m : Room) where
   validate_ends = go (first (validate_refusals i.nodes)) refl
     where
       go : (o : Option Reply) → first (validate_refusals i.nodes) ≡ o → Ending validating i m
-      go none e = validated (length i.nodes / size) e refl (rw e)
-      go (some r) e = refused r e (first_refuses (validate_refuses i.nodes) r e) (rw (e, worked_none r))
+      go None e = validated (length i.nodes / size) e refl (rw e)
+      go (Some r) e = refused r e (first_refuses (validate_refuses i.nodes) r e) (rw (e, worked_none r))
 
-  answered_ends : (c : Call) (r : Result) → lent c m ≡ m → outcome c i m ≡ answered m (refusals c i m) r → AllRefuse (refusals c i m) → (first (refusals c i m) ≡ none → Fitted m r) → Ending c i m
+  answered_ends : (c : Call) (r : Result) → lent c m ≡ m → outcome c i m ≡ answered m (refusals c i m) r → AllRefuse (refusals c i m) → (first (refusals c i m) ≡ None → Fitted m r) → Ending c i m
   unfolding answered
   answered_ends c r l q h s = go (first (refusals c i m)) refl
     where
       go : (o : Option Reply) → first (refusals c i m) ≡ o → Ending c i m
-      go none e = delivered r e (rw l (s e)) (q ∙ rw (l, e, answered))
-      go (some x) e = refused x e (first_refuses h x e) (q ∙ rw (l, e, answered))
+      go None e = delivered r e (rw l (s e)) (q ∙ rw (l, e, answered))
+      go (Some x) e = refused x e (first_refuses h x e) (q ∙ rw (l, e, answered))
 
   canonicalize_ends : Ending canonicalizing i m
   unfolding outcome refusals lent canonicalize canonical ids
   canonicalize_ends = answered_ends canonicalizing (canonical (forest i) i.roots) refl refl (canonicalize_refuses i m) (λ e. fitted e)
     where
-      fitted : first (canonicalize_refusals i m) ≡ none → Fitted m (canonical (forest i) i.roots)
+      fitted : first (canonicalize_refusals i m) ≡ None → Fitted m (canonical (forest i) i.roots)
       fitted e =
           let c = cleared i m e in
           let l = length_result i m e in
@@ -90,14 +89,14 @@ module _ (i : Input) (m : Room) where
     w : Walked
     w = walk (graph i) limit (roots_of i)
 
-    merged_fitted : first (merge_refusals limit i m w (merged (graph i) (roots_of i) (state_of w))) ≡ none → Fitted m (merged (graph i) (roots_of i) (state_of w))
+    merged_fitted : first (merge_refusals limit i m w (merged (graph i) (roots_of i) (state_of w))) ≡ None → Fitted m (merged (graph i) (roots_of i) (state_of w))
     unfolding w merge_refusals stopped state_of short
     merged_fitted e =
         let (past, rest) = first_both (merge_checks limit i m) _ e in
         let (a, b) = first_none _ _ rest in
         go (walk (graph i) limit (roots_of i)) refl past a (when_none _ _ (first_none _ _ b).0)
       where
-        go : (v : Walked) → walk (graph i) limit (roots_of i) ≡ v → Passes limit i m → stopped v ≡ none
+        go : (v : Walked) → walk (graph i) limit (roots_of i) ≡ v → Passes limit i m → stopped v ≡ None
             → (ltb (length m.nodes / size) (length (merged (graph i) (roots_of i) (state_of v)).nodes) || ltb (length m.roots) (length (merged (graph i) (roots_of i) (state_of v)).roots)) ≡ false
             → Fitted m (merged (graph i) (roots_of i) (state_of v))
         go (going s) q past h f =

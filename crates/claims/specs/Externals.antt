@@ -1,11 +1,10 @@
 -- Canonicalize's externals: sorted by digest, and no digest twice exactly if no neighbours are alike.
 -- Assumes nothing.
-use Rattle.std.specs.Prelude.{ℕ, ◌≡◌, Bool}
+use Rattle.std.specs.Prelude.{ℕ, ◌≡◌, Bool, Some, None}
 use Rattle.std.proofs.Math.Path.{refl}
 use Rattle.std.proofs.Common.{sym, ◌∙◌}
 use Rattle.std.proofs.Math.Bool.{true, false}
 use mathlib.Core.List.{List, [], ◌∷◌, Memᴰ}
-use Rattle.std.proofs.Math.Option.{some, none}
 use Rattle.record.specs.Lists.{same}
 use Rattle.record.specs.declared.Node.{Node}
 use Rattle.record.proofs.Basics.{clash, same_eq, same_refl}
@@ -17,7 +16,7 @@ use Rattle.claims.specs.Sorts.{Linked, linked_nil, linked_one, linked, linked_re
 
 module _ (g : List Node) where
   -- sorted, and no two neighbours alike: each goes before the next
-  strict : {l : List ℕ} → Linked (λ p q. lower g q p ≡ false) l → repeat g l ≡ none → Linked (λ p q. lower g p q ≡ true) l
+  strict : {l : List ℕ} → Linked (λ p q. lower g q p ≡ false) l → repeat g l ≡ None → Linked (λ p q. lower g p q ≡ true) l
   unfolding repeat lower
   strict linked_nil e = linked_nil
   strict linked_one e = linked_one
@@ -27,8 +26,8 @@ module _ (g : List Node) where
       up true h f = h
       up false h f = absurd (clash (let z = same_refl (at g p).digest in let y = before_total (at g p).digest (at g q).digest h r in cc))
 
-      go : (b : Bool) → same (at g p).digest (at g q).digest ≡ b → (repeat g (q ∷ l) ≡ none → Linked (λ p q. lower g p q ≡ true) (q ∷ l)) → Linked (λ p q. lower g p q ≡ true) (p ∷ q ∷ l)
-      go true h ih = absurd (clash (let z : some q ≡ none = rw (h, repeat) at e in cc))
+      go : (b : Bool) → same (at g p).digest (at g q).digest ≡ b → (repeat g (q ∷ l) ≡ None → Linked (λ p q. lower g p q ≡ true) (q ∷ l)) → Linked (λ p q. lower g p q ≡ true) (p ∷ q ∷ l)
+      go true h ih = absurd (clash (let z : Some q ≡ None = rw (h, repeat) at e in cc))
       go false h ih = linked (up (lower g p q) refl h) (ih (rw (h, repeat) at e))
 
   -- then each goes before all that follow
@@ -53,15 +52,15 @@ module _ (g : List Node) where
   unfolding externals lower
   externals_sorted = sort_sorted _ (λ p q. before_asym (at g p).digest (at g q).digest) _
 
-  pub externals_strict : repeat g (externals g) ≡ none → Linked (λ p q. lower g p q ≡ true) (externals g)
+  pub externals_strict : repeat g (externals g) ≡ None → Linked (λ p q. lower g p q ≡ true) (externals g)
   externals_strict e = strict externals_sorted e
 
-  pub repeat_none : (l : List ℕ) → Distinct l → ((p q : ℕ) → Memᴰ p l → Memᴰ q l → (at g p).digest ≡ (at g q).digest → p ≡ q) → repeat g l ≡ none
+  pub repeat_none : (l : List ℕ) → Distinct l → ((p q : ℕ) → Memᴰ p l → Memᴰ q l → (at g p).digest ≡ (at g q).digest → p ≡ q) → repeat g l ≡ None
   unfolding repeat
   repeat_none [] d h = refl
   repeat_none (p ∷ []) d h = refl
   repeat_none (p ∷ q ∷ l) (fresh f d) h = go (same (at g p).digest (at g q).digest) refl (repeat_none (q ∷ l) d (λ x y m n. h x y (Memᴰ.tail m) (Memᴰ.tail n)))
     where
-      go : (b : Bool) → same (at g p).digest (at g q).digest ≡ b → repeat g (q ∷ l) ≡ none → repeat g (p ∷ q ∷ l) ≡ none
+      go : (b : Bool) → same (at g p).digest (at g q).digest ≡ b → repeat g (q ∷ l) ≡ None → repeat g (p ∷ q ∷ l) ≡ None
       go true t ih = absurd (f (Memᴰ.head (h p q (Memᴰ.head refl) (Memᴰ.tail (Memᴰ.head refl)) (same_eq _ _ t))))
       go false t ih = rw (t, repeat) ih

@@ -1,13 +1,12 @@
 -- The order of nodes whose children all stand below them: externals by digest, then blocks, then internals by id.
 -- Assumes nothing.
 use Prim.Native.Nat.{ℕ, zero, suc, ◌+◌, ◌<◌, ◌≤◌}
-use Rattle.std.specs.Prelude.{◌≡◌, Bool, ◌&&◌, ◌⊎◌, length}
+use Rattle.std.specs.Prelude.{◌≡◌, Bool, ◌&&◌, ◌⊎◌, length, Some}
 use Rattle.std.proofs.Math.Path.{refl}
 use Rattle.std.proofs.Common.{◌∙◌, ap, inl, inr}
 use Rattle.std.proofs.Math.Bool.{true, false}
 use mathlib.Core.List.Memᴰ
 use mathlib.Core.List.{List, [], ◌∷◌, ◌++◌, Memᴰ, append-nil, append_assoc}
-use Rattle.std.proofs.Math.Option.{some}
 use native.Mathlib.Omega.{arith}
 use Rattle.record.specs.Lists.{run}
 use Rattle.record.specs.Node.{is_external, is_block, is_internal, children}
@@ -88,7 +87,7 @@ module _ (g : List Node) (kids : (p c : ℕ) → HasChild g p c → c < p) where
     where
       go : (b : Bool) → int k ≡ b → released g m (upto (suc k)) ≡ keep int (run (suc k) j) → released g (suc m) (upto (suc k)) ≡ keep int (run (suc k) j) → released g (suc m) (upto k) ≡ keep int (k ∷ run (suc k) j)
       go true t one two =
-          let f : lowest (ready g (upto k)) (ids g) ≡ some k = lowest_at (ready g (upto k)) 0 (length g) k (λ x n. ready_past k x (omega arith) (omega arith)) (let z : 0 + k ≡ k = omega arith in rw z (ready_here k (omega arith) t)) (omega arith) in
+          let f : lowest (ready g (upto k)) (ids g) ≡ Some k = lowest_at (ready g (upto k)) 0 (length g) k (λ x n. ready_past k x (omega arith) (omega arith)) (let z : 0 + k ≡ k = omega arith in rw z (ready_here k (omega arith) t)) (omega arith) in
           let s : upto (suc k) ≡ upto k ++ k ∷ [] = upto_next k ∙ rw (t, keep) in
           rw (f, released, t, keep, ← s) (ap {B = List ℕ} (λ l. k ∷ l) one)
       go false t one two =

@@ -1,14 +1,13 @@
 -- The result of a merge whose walk has finished: never more nodes than it was given, children below their parents, no two nodes equal,
 -- everything in range.
 -- Assumes nothing.
-use Rattle.std.specs.Prelude.{ℕ, suc, ◌<◌, ◌≤◌, ◌≡◌, Bool, false, ◌⊎◌}
+use Rattle.std.specs.Prelude.{ℕ, suc, ◌<◌, ◌≤◌, ◌≡◌, Bool, false, ◌⊎◌, Option, Some, None}
 use Rattle.std.proofs.Math.Path.{refl, sym}
 use Rattle.std.proofs.Common.{◌∙◌}
 use Rattle.std.proofs.Math.Bool.{true}
 use mathlib.Core.List.Memᴰ
 use mathlib.Core.List.{List, [], ◌∷◌, map, Memᴰ, append-nil}
 use Rattle.std.proofs.Math.Logic.{inl, inr}
-use Rattle.std.proofs.Math.Option.{Option, some, none}
 use native.Mathlib.Omega.{arith}
 use Rattle.std.proofs.Math.ListN.{length, get_or, length-map}
 use Rattle.record.specs.Lists.{run, flat}
@@ -117,7 +116,7 @@ module _ (limit : ℕ) (i : Input) (m : Room) (past : Passes limit i m) (t : Sta
   merged_few = let a = walk_few (node_sum i.table) (graph i) (roots_of i) (bounded limit i m past) limit t e in let b = all_placed in omega arith
 
   -- the result's nodes pass Validate's tests
-  pub merged_passes : first (node_faults delivers.nodes) ≡ none
+  pub merged_passes : first (node_faults delivers.nodes) ≡ None
   unfolding merged
   merged_passes = built_passes t.merged sound.merged_built merged_bare
 
@@ -155,8 +154,8 @@ module _ (limit : ℕ) (i : Input) (m : Room) (past : Passes limit i m) (t : Sta
   carried_in_range p = go (id_in t.done p) refl
     where
       go : (o : Option ℕ) → id_in t.done p ≡ o → (carried t (order t.merged) p ≡ no_id) ⊎ (carried t (order t.merged) p < length delivers.nodes)
-      go none q = inl (rw (q, carried))
-      go (some k) q = inr (rw (q, carried) (placed_below k (sound.named p k q)))
+      go None q = inl (rw (q, carried))
+      go (Some k) q = inr (rw (q, carried) (placed_below k (sound.named p k q)))
 
   pub ids_in_range : (x : ℕ) → Memᴰ x delivers.ids → (x ≡ no_id) ⊎ (x < length delivers.nodes)
   unfolding merged
@@ -170,7 +169,7 @@ module _ (limit : ℕ) (i : Input) (m : Room) (past : Passes limit i m) (t : Sta
   unfolding merged carried
   roots_in_range x k = from (Memᴰ.of_map (carried t (order t.merged)) (roots_of i) (firsts_in [] _ x k))
     where
-      named : (r : ℕ) → (j : ℕ) × (id_in t.done r ≡ some j) → carried t (order t.merged) r < length delivers.nodes
+      named : (r : ℕ) → (j : ℕ) × (id_in t.done r ≡ Some j) → carried t (order t.merged) r < length delivers.nodes
       named r (j, q) = rw (q, carried) (placed_below j (sound.named r j q))
 
       from : (r : ℕ) × Memᴰ r (roots_of i) × (carried t (order t.merged) r ≡ x) → x < length delivers.nodes

@@ -1,10 +1,9 @@
 -- Every node of the joined graph, of the merged nodes and of the result comes from an input record: what renumbering keeps, they have.
 -- Assumes nothing.
-use Rattle.std.specs.Prelude.{ℕ, zero, suc, ◌+◌, ◌*◌, ◌^◌, ◌/◌, ◌<◌, ◌≡◌, refl, true, false, ◌⊎◌, length, drop, replicate}
+use Rattle.std.specs.Prelude.{ℕ, zero, suc, ◌+◌, ◌*◌, ◌^◌, ◌/◌, ◌<◌, ◌≡◌, refl, true, false, ◌⊎◌, length, drop, replicate, None}
 use Rattle.std.proofs.Common.{sym, inl, inr, arith}
 use mathlib.Core.List.Memᴰ
 use mathlib.Core.List.{List, [], ◌∷◌, map, Memᴰ}
-use Rattle.std.proofs.Math.Option.{none}
 use Rattle.record.specs.Lists.{run, all, flat}
 use Rattle.record.specs.Node.{words, size, node_at, nodes_of, node_bytes, rows_of, class_of, rank, class, is_internal, bad, children, renumber}
 use Rattle.record.specs.declared.Node.{Node}
@@ -112,13 +111,13 @@ pub proper_bare : (g : List Node) → Each Proper g → Bare g
 unfolding Bare Proper
 proper_bare g h p c k = h (at g p) (parent_in g p c k) c k
 
-pub records_proper : (s : List ℕ) → bad_record s ≡ none → Each Proper (nodes_of s)
+pub records_proper : (s : List ℕ) → bad_record s ≡ None → Each Proper (nodes_of s)
 unfolding Proper bad_record
 records_proper s e n m c k = good_internal n (lowest_none bad (nodes_of s) (naming_none _ _ e) n m) c k
 
 -- WHAT IS WRITTEN ---------------------------------------------------------------------------------
 
-pub records_written : (s : List ℕ) → Octets s → bad_record s ≡ none → Each Written (nodes_of s)
+pub records_written : (s : List ℕ) → Octets s → bad_record s ≡ None → Each Written (nodes_of s)
 unfolding bad_record
 records_written s h e n m = (records_each (λ x. bad x ≡ false → Written x) s (λ i. written_read s i h) n m) (lowest_none bad (nodes_of s) (naming_none _ _ e) n m)
 

@@ -1,8 +1,7 @@
 -- What every call leaves, said once over all three.
 -- Assumes nothing.
-use Rattle.std.specs.Prelude.{ℕ, ◌+◌, ◌*◌, ◌≤◌, ◌≡◌, refl, Bool, true, false, List, length, drop, replicate}
+use Rattle.std.specs.Prelude.{ℕ, ◌+◌, ◌*◌, ◌≤◌, ◌≡◌, refl, Bool, true, false, List, length, drop, replicate, Some, None}
 use Rattle.std.proofs.Common.{sym, ◌∙◌, arith, length-append, length-drop, drop_at}
-use Rattle.std.proofs.Math.Option.{some, none}
 use Rattle.std.proofs.lemmas.List.{length-replicate}
 use Rattle.record.specs.Lists.{over, flat}
 use Rattle.record.specs.Node.{size, node_bytes}
@@ -23,21 +22,21 @@ pub one_outcome : (c : Call) (i : Input) (m : Room) (o o' : Outcome) → Satisfi
 one_outcome c i m o o' e e' = e ∙ sym e'
 
 -- the first refusal of a call's list is its reply; if none applies, the call is accepted
-pub first_decides : (c : Call) (i : Input) (m : Room) (r : Reply) → first (refusals c i m) ≡ some r → (outcome c i m).reply ≡ r
+pub first_decides : (c : Call) (i : Input) (m : Room) (r : Reply) → first (refusals c i m) ≡ Some r → (outcome c i m).reply ≡ r
 unfolding refuse
 first_decides c i m r h = go (ending c i m)
   where
     go : Ending c i m → (outcome c i m).reply ≡ r
-    go (refused x q f e) = rw e (let z : some x ≡ some r = sym q ∙ h in cc)
-    go (delivered x q f e) = absurd (clash (let z : none ≡ some r = sym q ∙ h in cc))
-    go (validated n q l e) = absurd (clash (let z : none ≡ some r = sym q ∙ h in cc))
+    go (refused x q f e) = rw e (let z : Some x ≡ Some r = sym q ∙ h in cc)
+    go (delivered x q f e) = absurd (clash (let z : None ≡ Some r = sym q ∙ h in cc))
+    go (validated n q l e) = absurd (clash (let z : None ≡ Some r = sym q ∙ h in cc))
 
-pub none_accepts : (c : Call) (i : Input) (m : Room) → first (refusals c i m) ≡ none → IsAccepted (outcome c i m)
+pub none_accepts : (c : Call) (i : Input) (m : Room) → first (refusals c i m) ≡ None → IsAccepted (outcome c i m)
 unfolding accept
 none_accepts c i m h = go (ending c i m)
   where
     go : Ending c i m → IsAccepted (outcome c i m)
-    go (refused x q f e) = absurd (clash (let z : some x ≡ none = sym q ∙ h in cc))
+    go (refused x q f e) = absurd (clash (let z : Some x ≡ None = sym q ∙ h in cc))
     go (delivered r q f e) = record { nodes = length r.nodes; roots = length r.roots; says = rw e }
     go (validated n q l e) = record { nodes = n; roots = 0; says = rw e }
 

@@ -1,11 +1,10 @@
 -- The nodes in canonical order pass Validate's tests.
 -- Assumes nothing.
-use Rattle.std.specs.Prelude.{ℕ, suc, ◌<◌, ◌≤◌, ◌≡◌, Bool, true, false, not, ◌&&◌, ◌⊎◌, leb, eqb}
+use Rattle.std.specs.Prelude.{ℕ, suc, ◌<◌, ◌≤◌, ◌≡◌, Bool, true, false, not, ◌&&◌, ◌⊎◌, leb, eqb, Some, None}
 use Rattle.std.proofs.Math.Path.{refl, sym}
 use Rattle.std.proofs.Common.{◌∙◌, inl, inr, arith}
 use mathlib.Core.List.Memᴰ
 use mathlib.Core.List.{List, [], ◌∷◌, ◌++◌, map, Memᴰ, append-nil, append_assoc}
-use Rattle.std.proofs.Math.Option.{some, none}
 use borrow.Author.Tests.{ltb-false, leb-false, eqb-false, le-ltb, lt-leb}
 use Rattle.std.proofs.Math.ListN.{length, length-append}
 use Rattle.record.specs.Node.{rank, class, is_external, is_block, is_internal, children, renumber}
@@ -49,12 +48,12 @@ neither_back : (a b c : Bool) → (a && (b && not c)) ≡ false → b ≡ true �
 neither_back a b true e x y = refl
 neither_back a b false e x y = absurd (clash (let z : (true && (true && not false)) ≡ false = rw (x, y) at e in cc))
 
-fault_none : (i : ℕ) (n m : Node) → rank (class n) ≤ rank (class m) → (is_external n ≡ true → is_external m ≡ true → before n.digest m.digest ≡ true) → ((c : ℕ) → Memᴰ c (children m) → c < i) → fault i n m ≡ none
+fault_none : (i : ℕ) (n m : Node) → rank (class n) ≤ rank (class m) → (is_external n ≡ true → is_external m ≡ true → before n.digest m.digest ≡ true) → ((c : ℕ) → Memᴰ c (children m) → c < i) → fault i n m ≡ None
 unfolding fault forward first when naming
 fault_none i n m a b c =
     rw (le-ltb (rank (class m)) (rank (class n)) a, neither (is_external m) (is_external n) (before n.digest m.digest) b, none_last_of (leb i) (children m) (λ x k. lt-leb i x (c x k)))
 
-pub none_fault : (i : ℕ) (n m : Node) → fault i n m ≡ none → (rank (class n) ≤ rank (class m)) × (is_external n ≡ true → is_external m ≡ true → before n.digest m.digest ≡ true) × ((c : ℕ) → Memᴰ c (children m) → c < i)
+pub none_fault : (i : ℕ) (n m : Node) → fault i n m ≡ None → (rank (class n) ≤ rank (class m)) × (is_external n ≡ true → is_external m ≡ true → before n.digest m.digest ≡ true) × ((c : ℕ) → Memᴰ c (children m) → c < i)
 unfolding fault forward
 none_fault i n m e =
     let (a, e1) = first_none _ _ e in
@@ -64,15 +63,15 @@ none_fault i n m e =
 
 -- PLACES --------------------------------------------------------------------------------------
 
-found : (c : ℕ) (a l : List ℕ) → Memᴰ c a → (i : ℕ) × (lowest (eqb c) (a ++ l) ≡ some i) × (i < length a)
+found : (c : ℕ) (a l : List ℕ) → Memᴰ c a → (i : ℕ) × (lowest (eqb c) (a ++ l) ≡ Some i) × (i < length a)
 unfolding lowest here_or
 found c (x ∷ a) l m = go (eqb c x) refl (found c a l)
   where
-    on : eqb c x ≡ false → (Memᴰ c a → (i : ℕ) × (lowest (eqb c) (a ++ l) ≡ some i) × (i < length a)) → (c ≡ x) ⊎ Memᴰ c a → (i : ℕ) × (lowest (eqb c) (x ∷ a ++ l) ≡ some i) × (i < suc (length a))
+    on : eqb c x ≡ false → (Memᴰ c a → (i : ℕ) × (lowest (eqb c) (a ++ l) ≡ Some i) × (i < length a)) → (c ≡ x) ⊎ Memᴰ c a → (i : ℕ) × (lowest (eqb c) (x ∷ a ++ l) ≡ Some i) × (i < suc (length a))
     on t ih (inl e) = absurd (eqb-false c x t e)
     on t ih (inr k) = let (i, e, h) = ih k in (suc i, rw (t, e), omega arith)
 
-    go : (b : Bool) → eqb c x ≡ b → (Memᴰ c a → (i : ℕ) × (lowest (eqb c) (a ++ l) ≡ some i) × (i < length a)) → (i : ℕ) × (lowest (eqb c) (x ∷ a ++ l) ≡ some i) × (i < suc (length a))
+    go : (b : Bool) → eqb c x ≡ b → (Memᴰ c a → (i : ℕ) × (lowest (eqb c) (a ++ l) ≡ Some i) × (i < length a)) → (i : ℕ) × (lowest (eqb c) (x ∷ a ++ l) ≡ Some i) × (i < suc (length a))
     go true t ih = (0, rw t, omega arith)
     go false t ih = on t ih (Memᴰ.cases_cons m)
 found c [] l m = absurd (Memᴰ.not-nil m)
@@ -94,21 +93,21 @@ module _ (g : List Node) (o : List ℕ) where
       go : (x : ℕ) × HasChild g p x × (place_in o x ≡ c) → c < length a
       go (x, k, q) = rw (sym q, e) (place_lt x a l (h x k))
 
-  faults_none : (a : List ℕ) (i x : ℕ) (l : List ℕ) → i ≡ length a → Prior g a l → Linked (May g) (x ∷ l) → o ≡ a ++ l → first (faults i (new x) (map new l)) ≡ none
+  faults_none : (a : List ℕ) (i x : ℕ) (l : List ℕ) → i ≡ length a → Prior g a l → Linked (May g) (x ∷ l) → o ≡ a ++ l → first (faults i (new x) (map new l)) ≡ None
   unfolding faults first new renumber class is_external
   faults_none a i x [] h p s e = refl
   faults_none a i x (y ∷ l) h (prior k p) (linked r s) e =
       rw fault_new (faults_none (a ++ y ∷ []) (suc i) y l (omega (arith, length-append a (y ∷ []))) p s (e ∙ sym (append_assoc a (y ∷ []) l)))
     where
-      fault_new : fault i (new x) (new y) ≡ none
+      fault_new : fault i (new x) (new y) ≡ None
       fault_new = fault_none i (new x) (new y) r.classed r.sorted (λ c m. let q : c < length a = kids_before a (y ∷ l) y e k c m in omega arith)
 
   -- an order in which children come first and neighbours may follow each other gives nodes that pass
-  passes : Prior g [] o → Linked (May g) o → first (node_faults (map new o)) ≡ none
+  passes : Prior g [] o → Linked (May g) o → first (node_faults (map new o)) ≡ None
   unfolding node_faults forward first naming
   passes p s = go o refl p s
     where
-      go : (l : List ℕ) → o ≡ l → Prior g [] l → Linked (May g) l → first (node_faults (map new l)) ≡ none
+      go : (l : List ℕ) → o ≡ l → Prior g [] l → Linked (May g) l → first (node_faults (map new l)) ≡ None
       go [] e p s = refl
       go (x ∷ l) e (prior k p) s = rw (none_last_of (leb 0) (children (new x)) (λ c m. lt-leb 0 c (kids_before [] (x ∷ l) x e k c m))) (faults_none (x ∷ []) 1 x l refl p s e)
 
@@ -142,7 +141,7 @@ module _ (g : List Node) where
   may_same : (x y : ℕ) → rank (class (at g x)) ≡ rank (class (at g y)) → 0 < rank (class (at g x)) → May g x y
   may_same x y e h = record { classed = omega arith; sorted = λ a b. absurd (let u = rank_external (at g x) a in omega arith) }
 
-  order_linked : repeat g (externals g) ≡ none → Linked (May g) (order g)
+  order_linked : repeat g (externals g) ≡ None → Linked (May g) (order g)
   unfolding order begun lower
   order_linked e = linked_append (linked_append first_part second_part up) third_part up2
     where
@@ -169,6 +168,6 @@ module _ (g : List Node) where
       up2 x y m n = let u = low x (begun_in g x m).0 in let v = rank_internal _ (queue_internal q y n) in may_up x y (omega arith)
 
   -- The result passes Validate
-  pub result_passes : Bare g → repeat g (externals g) ≡ none → first (node_faults (arranged g (order g))) ≡ none
+  pub result_passes : Bare g → repeat g (externals g) ≡ None → first (node_faults (arranged g (order g))) ≡ None
   unfolding arranged new
   result_passes bare e = passes g (order g) (order_prior bare) (order_linked e)

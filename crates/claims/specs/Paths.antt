@@ -1,8 +1,7 @@
 -- Demand 3's words: steps, paths from a root and cycles, from child references and step 1 alone, without the walk.
 -- Assumes nothing: these are definitions.
-use Rattle.std.specs.Prelude.{ℕ, ◌<◌, ◌≡◌, true, length}
+use Rattle.std.specs.Prelude.{ℕ, ◌<◌, ◌≡◌, true, length, Some}
 use mathlib.Core.List.{List, [], ◌∷◌, Memᴰ}
-use Rattle.std.proofs.Math.Option.{some}
 use Rattle.record.specs.Node.{is_external, children}
 use Rattle.record.specs.declared.Node.{Node}
 use Rattle.forest.specs.Graph.{at, replaced_by}
@@ -15,7 +14,7 @@ HasChild g p q = Memᴰ q (children (at g p))
 -- q is a child of p, or the external p is replaced by q
 pub data Step (g : List Node) (p q : ℕ) : Type 0 where
   child : HasChild g p q → Step g p q
-  replaced : replaced_by g p ≡ some q → Step g p q
+  replaced : replaced_by g p ≡ Some q → Step g p q
 
 -- one or more steps of R from p to the last
 pub data Steps (R : ℕ → ℕ → Type 0) (p : ℕ) : ℕ → Type 0 where

@@ -1,11 +1,10 @@
 -- Places in an order, and the nodes that stand there.
 -- Assumes nothing.
 use Prim.Native.Nat.{ℕ, zero, suc, ◌<◌}
-use Rattle.std.specs.Prelude.{◌≡◌, refl, Bool, ◌⊎◌, eqb, length, get_or}
+use Rattle.std.specs.Prelude.{◌≡◌, refl, Bool, ◌⊎◌, eqb, length, get_or, Option, Some, None}
 use Rattle.std.proofs.Common.{sym, ◌∙◌, ap, inl, inr, arith, eqb-true, eq-eqb}
 use Rattle.std.proofs.Math.Bool.{true}
 use mathlib.Core.List.{List, [], ◌∷◌, map, Memᴰ}
-use Rattle.std.proofs.Math.Option.{Option, some, none}
 use Rattle.record.specs.Lists.{same}
 use Rattle.record.specs.Node.{children, renumber, same_node}
 use Rattle.record.specs.declared.Node.{Node}
@@ -19,12 +18,12 @@ use Rattle.claims.specs.Searches.{here_or_some, lowest_none, get_d_mem}
 
 module _ {A : Type 0} where
   -- what the search found passes
-  pub lowest_passes : (t : A → Bool) (l : List A) (i : ℕ) (d : A) → lowest t l ≡ some i → t (get_or l i d) ≡ true
+  pub lowest_passes : (t : A → Bool) (l : List A) (i : ℕ) (d : A) → lowest t l ≡ Some i → t (get_or l i d) ≡ true
   unfolding lowest
   lowest_passes t [] i d e = absurd (clash (cc))
   lowest_passes t (x ∷ l) i d e = go (here_or_some (t x) (lowest t l) i e) (λ j. lowest_passes t l j d)
     where
-      go : ((t x ≡ true) × (i ≡ 0)) ⊎ ((j : ℕ) × (lowest t l ≡ some j) × (i ≡ suc j)) → ((j : ℕ) → lowest t l ≡ some j → t (get_or l j d) ≡ true) → t (get_or (x ∷ l) i d) ≡ true
+      go : ((t x ≡ true) × (i ≡ 0)) ⊎ ((j : ℕ) × (lowest t l ≡ Some j) × (i ≡ suc j)) → ((j : ℕ) → lowest t l ≡ Some j → t (get_or l j d) ≡ true) → t (get_or (x ∷ l) i d) ≡ true
       go (inl (a, z)) ih = rw z a
       go (inr (j, a, z)) ih = rw z (ih j a)
 
@@ -34,8 +33,8 @@ unfolding place_in or_none
 place_at_lem o x m = go (lowest (eqb x) o) refl
   where
     go : (r : Option ℕ) → lowest (eqb x) o ≡ r → get_or o (or_none r) 0 ≡ x
-    go none e = absurd (clash (let z = lowest_none (eqb x) o e x m in let y = eq-eqb x x refl in cc))
-    go (some i) e = sym (eqb-true x _ (lowest_passes (eqb x) o i 0 e))
+    go None e = absurd (clash (let z = lowest_none (eqb x) o e x m in let y = eq-eqb x x refl in cc))
+    go (Some i) e = sym (eqb-true x _ (lowest_passes (eqb x) o i 0 e))
 
 -- so two numbers of the order at one place are one
 pub place_one : (o : List ℕ) (x y : ℕ) → Memᴰ x o → Memᴰ y o → place_in o x ≡ place_in o y → x ≡ y

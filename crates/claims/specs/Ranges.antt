@@ -1,12 +1,11 @@
 -- What the checks of ranges say of the joined graph; and no path holds more distinct nodes than there are.
 -- Assumes nothing.
-use Rattle.std.specs.Prelude.{ℕ, ◌+◌, ◌<◌, ◌≤◌, ◌≡◌, Bool, not, ◌⊎◌, leb, ltb, drop}
+use Rattle.std.specs.Prelude.{ℕ, ◌+◌, ◌<◌, ◌≤◌, ◌≡◌, Bool, not, ◌⊎◌, leb, ltb, drop, Some, None}
 use Rattle.std.proofs.Math.Path.{refl}
 use Rattle.std.proofs.Math.Bool.{true, false}
 use mathlib.Core.List.Memᴰ
 use mathlib.Core.List.{List, [], ◌∷◌, map, Memᴰ}
 use Rattle.std.proofs.Common.{inl, inr, ltb-true, leb-false, length-append, length-take, length-drop}
-use Rattle.std.proofs.Math.Option.{some, none}
 use native.Mathlib.Omega.{arith}
 use Rattle.std.proofs.lemmas.Bool.{not-false}
 use Rattle.std.proofs.Math.ListN.{length}
@@ -28,7 +27,7 @@ use Rattle.claims.specs.Searches.{lowest_none, last_of_none, highest_lt, first_s
 Below : ℕ → List Forest → Type 0
 Below n fs = (f : Forest) → Memᴰ f fs → f.base + f.count ≤ n
 
-roots_below : (n : ℕ) (fs : List Forest) → Below n fs → far_root fs ≡ none → (r : ℕ) → Memᴰ r (joined_roots fs) → r < n
+roots_below : (n : ℕ) (fs : List Forest) → Below n fs → far_root fs ≡ None → (r : ℕ) → Memᴰ r (joined_roots fs) → r < n
 unfolding Below far_root joined_roots
 roots_below n fs b e r m =
     let (f, k, h) = flat_from _ fs r m in
@@ -37,7 +36,7 @@ roots_below n fs b e r m =
     let w : f.base + f.count ≤ n = b f k in
     omega arith
 
-kids_below : (n : ℕ) (fs : List Forest) → Below n fs → far_child fs ≡ none → (m : Node) → Memᴰ m (joined fs) → (c : ℕ) → Memᴰ c (children m) → c < n
+kids_below : (n : ℕ) (fs : List Forest) → Below n fs → far_child fs ≡ None → (m : Node) → Memᴰ m (joined fs) → (c : ℕ) → Memᴰ c (children m) → c < n
 unfolding Below far_child far_kid joined
 kids_below n fs b e m i c j =
     let (f, k, h) = flat_from _ fs m i in
@@ -83,7 +82,7 @@ module _ (n : ℕ) (g : List Node) (roots : List ℕ) (w : Bounded n g roots) wh
     where
       go : (b : Bool) → is_external (at g p) ≡ b → q < n
       go true t = let h : q < length g = highest_lt _ g q (rw (t, replaced_by) at e) in let k : length g ≤ n = w.count in omega arith
-      go false t = absurd (clash (let z : none ≡ some q = rw (t, replaced_by) at e in cc))
+      go false t = absurd (clash (let z : None ≡ Some q = rw (t, replaced_by) at e in cc))
 
   path_below : {l : List ℕ} → Path (Step g) roots l → (x : ℕ) → Memᴰ x l → x < n
   path_below (root m) x k = w.starts x (rw (Memᴰ.eq_of_singleton k) m)
@@ -100,7 +99,7 @@ long_below n g roots w d l =
     let k : d < length l.some_of = l.more in
     omega arith
 
-pub forests_bounded : (rs : List Row) (ns : List Node) (roots : List ℕ) → length ns ≡ sum (map (λ r. r.nodes) rs) → far_root (forests 0 rs ns roots) ≡ none → far_child (forests 0 rs ns roots) ≡ none
+pub forests_bounded : (rs : List Row) (ns : List Node) (roots : List ℕ) → length ns ≡ sum (map (λ r. r.nodes) rs) → far_root (forests 0 rs ns roots) ≡ None → far_child (forests 0 rs ns roots) ≡ None
     → Bounded (sum (map (λ r. r.nodes) rs)) (joined (forests 0 rs ns roots)) (joined_roots (forests 0 rs ns roots))
 forests_bounded rs ns roots l e f =
     let h : Below (sum (map (λ r. r.nodes) rs)) (forests 0 rs ns roots) = forests_below 0 rs ns roots _ (omega arith) in

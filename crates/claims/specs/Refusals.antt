@@ -1,7 +1,6 @@
 -- No refusal is an acceptance: each member of each list of refusals refuses.
 -- Assumes nothing.
-use Rattle.std.specs.Prelude.{ℕ, suc, ◌<◌, ◌≤◌, ◌≡◌, refl, Bool, true, false, List, [], ◌∷◌, ◌++◌, ◌≢◌}
-use Rattle.std.proofs.Math.Option.{Option, some, none}
+use Rattle.std.specs.Prelude.{ℕ, suc, ◌<◌, ◌≤◌, ◌≡◌, refl, Bool, true, false, List, [], ◌∷◌, ◌++◌, ◌≢◌, Option, Some, None}
 use Rattle.std.proofs.Common.{arith}
 use Rattle.record.specs.Node.{nodes_of}
 use Rattle.record.specs.declared.Node.{Node}
@@ -23,13 +22,13 @@ Refuses r = (n k : ℕ) → r ≢ Accepted n k
 -- whatever the list holds refuses
 pub data AllRefuse : List (Option Reply) → Type 0 where
   refuse_nil : AllRefuse []
-  refuse_cons : {o : Option Reply} {os : List (Option Reply)} → ((r : Reply) → o ≡ some r → Refuses r) → AllRefuse os → AllRefuse (o ∷ os)
+  refuse_cons : {o : Option Reply} {os : List (Option Reply)} → ((r : Reply) → o ≡ Some r → Refuses r) → AllRefuse os → AllRefuse (o ∷ os)
 
-pub first_refuses : {os : List (Option Reply)} → AllRefuse os → (r : Reply) → first os ≡ some r → Refuses r
+pub first_refuses : {os : List (Option Reply)} → AllRefuse os → (r : Reply) → first os ≡ Some r → Refuses r
 unfolding first
 first_refuses refuse_nil r e = absurd (clash (cc))
-first_refuses (refuse_cons {o = none} h a) r e = first_refuses a r e
-first_refuses (refuse_cons {o = some x} h a) r e = h r e
+first_refuses (refuse_cons {o = None} h a) r e = first_refuses a r e
+first_refuses (refuse_cons {o = Some x} h a) r e = h r e
 
 append_refuses : {os ps : List (Option Reply)} → AllRefuse os → AllRefuse ps → AllRefuse (os ++ ps)
 append_refuses refuse_nil b = b
@@ -37,15 +36,15 @@ append_refuses (refuse_cons h a) b = refuse_cons h (append_refuses a b)
 
 -- THE MEMBERS -------------------------------------------------------------------------------------
 
-when_refuses : (b : Bool) (x : Reply) → Refuses x → (r : Reply) → when b x ≡ some r → Refuses r
+when_refuses : (b : Bool) (x : Reply) → Refuses x → (r : Reply) → when b x ≡ Some r → Refuses r
 unfolding when
 when_refuses true x h r e n k q = h n k cc
 when_refuses false x h r e n k q = clash (cc)
 
-naming_refuses : {A : Type 0} (f : A → Reply) → ((a : A) → Refuses (f a)) → (o : Option A) (r : Reply) → naming f o ≡ some r → Refuses r
+naming_refuses : {A : Type 0} (f : A → Reply) → ((a : A) → Refuses (f a)) → (o : Option A) (r : Reply) → naming f o ≡ Some r → Refuses r
 unfolding naming
-naming_refuses f h none r e n k q = clash (cc)
-naming_refuses f h (some a) r e n k q = h a n k cc
+naming_refuses f h None r e n k q = clash (cc)
+naming_refuses f h (Some a) r e n k q = h a n k cc
 
 too_many : Refuses TooMany
 too_many n k e = clash (cc)
@@ -53,23 +52,23 @@ too_many n k e = clash (cc)
 bad_buffers : (b : ℕ) → Refuses (BadBuffers b)
 bad_buffers b n k e = clash (cc)
 
-bad_record_lem : (b : List ℕ) (r : Reply) → bad_record b ≡ some r → Refuses r
+bad_record_lem : (b : List ℕ) (r : Reply) → bad_record b ≡ Some r → Refuses r
 unfolding bad_record
 bad_record_lem b = naming_refuses BadRecord (λ p n k e. clash (cc)) _
 
-root_range_lem : (fs : List Forest) (r : Reply) → root_range fs ≡ some r → Refuses r
+root_range_lem : (fs : List Forest) (r : Reply) → root_range fs ≡ Some r → Refuses r
 unfolding root_range
 root_range_lem fs = naming_refuses RootRange (λ p n k e. clash (cc)) _
 
-child_range_lem : (fs : List Forest) (r : Reply) → child_range fs ≡ some r → Refuses r
+child_range_lem : (fs : List Forest) (r : Reply) → child_range fs ≡ Some r → Refuses r
 unfolding child_range
 child_range_lem fs = naming_refuses _ (λ p n k e. clash (cc)) _
 
-forward_refuses : (p : ℕ) (m : Node) (r : Reply) → forward p m ≡ some r → Refuses r
+forward_refuses : (p : ℕ) (m : Node) (r : Reply) → forward p m ≡ Some r → Refuses r
 unfolding forward
 forward_refuses p m = naming_refuses (ForwardReference p) (λ c n k e. clash (cc)) _
 
-fault_refuses : (p : ℕ) (n m : Node) (r : Reply) → fault p n m ≡ some r → Refuses r
+fault_refuses : (p : ℕ) (n m : Node) (r : Reply) → fault p n m ≡ Some r → Refuses r
 unfolding fault
 fault_refuses p n m =
     first_refuses
@@ -115,13 +114,13 @@ canonicalize_refuses i m =
     (refuse_cons (root_range_lem _) refuse_nil))))))))
     (disorders_refuse (nodes_of i.nodes))
 
-stopped_refuses : (w : Walked) (r : Reply) → stopped w ≡ some r → Refuses r
+stopped_refuses : (w : Walked) (r : Reply) → stopped w ≡ Some r → Refuses r
 unfolding stopped
 stopped_refuses (going s) r e n k q = clash (cc)
 stopped_refuses (cycle p) r e n k q = clash (cc)
 stopped_refuses (deep p) r e n k q = clash (cc)
 
-short_refuses : (m : Room) (x : Result) (r : Reply) → short m x ≡ some r → Refuses r
+short_refuses : (m : Room) (x : Result) (r : Reply) → short m x ≡ Some r → Refuses r
 unfolding short
 short_refuses m x = when_refuses _ _ (λ n k e. clash (cc))
 
@@ -150,13 +149,13 @@ pub record IsAccepted (o : Outcome) : Type 0 where
   pub says : o.reply ≡ Accepted nodes roots
 
 -- what is accepted was refused by nothing
-pub accepted_past : (m : Room) (os : List (Option Reply)) (r : Result) → AllRefuse os → IsAccepted (answered m os r) → first os ≡ none
+pub accepted_past : (m : Room) (os : List (Option Reply)) (r : Result) → AllRefuse os → IsAccepted (answered m os r) → first os ≡ None
 unfolding answered refuse
 accepted_past m os r h a = go (first os) refl
   where
-    go : (o : Option Reply) → first os ≡ o → first os ≡ none
-    go none e = e
-    go (some x) e = absurd (first_refuses h x e a.nodes a.roots (let z = a.says in rw (e, answered) at z))
+    go : (o : Option Reply) → first os ≡ o → first os ≡ None
+    go None e = e
+    go (Some x) e = absurd (first_refuses h x e a.nodes a.roots (let z = a.says in rw (e, answered) at z))
 
 -- NUMBERS -----------------------------------------------------------------------------------------
 

@@ -1,13 +1,12 @@
 -- Canonicalize's order: what is released, that nothing is in it twice, and that without a cycle it holds everything.
 -- Assumes nothing.
 use Prim.Native.Nat.{ℕ, zero, suc, ◌+◌, ◌<◌, ◌≤◌}
-use Rattle.std.specs.Prelude.{◌≡◌, Bool, true, not, ◌⊎◌}
+use Rattle.std.specs.Prelude.{◌≡◌, Bool, true, not, ◌⊎◌, Option, Some, None}
 use Rattle.std.proofs.Math.Path.{refl}
 use Rattle.std.proofs.Math.Bool.{false}
 use mathlib.Core.List.Memᴰ
 use mathlib.Core.List.{List, [], ◌∷◌, ◌++◌, Memᴰ, append-nil, append_assoc}
 use Rattle.std.proofs.Math.Logic.{inl, inr}
-use Rattle.std.proofs.Math.Option.{Option, some, none}
 use native.Mathlib.Omega.{arith}
 use borrow.Author.Tests.{not-true}
 use Rattle.std.proofs.Math.ListN.{length, length-append}
@@ -38,24 +37,24 @@ module _ (g : List Node) where
   released_queue (suc n) o = go (lowest (ready g o) (ids g)) refl (λ p. released_queue n (o ++ p ∷ []))
     where
       go : (c : Option ℕ) → lowest (ready g o) (ids g) ≡ c → ((p : ℕ) → Queue g (o ++ p ∷ []) (released g n (o ++ p ∷ []))) → Queue g o (released g (suc n) o)
-      go none e ih = rw (e, released) idle
-      go (some p) e ih = let (u, v) = lowest_ids (ready g o) (length g) p e in rw (e, released) (release u v (ih p))
+      go None e ih = rw (e, released) idle
+      go (Some p) e ih = let (u, v) = lowest_ids (ready g o) (length g) p e in rw (e, released) (release u v (ih p))
 
   -- it ends because nothing is ready, or because the number of turns is used up
-  pub released_end : (n : ℕ) (o : List ℕ) → (lowest (ready g (o ++ released g n o)) (ids g) ≡ none) ⊎ (n ≤ length (released g n o))
+  pub released_end : (n : ℕ) (o : List ℕ) → (lowest (ready g (o ++ released g n o)) (ids g) ≡ None) ⊎ (n ≤ length (released g n o))
   unfolding released
   released_end zero o = inr (omega arith)
   released_end (suc n) o = go (lowest (ready g o) (ids g)) refl (λ p. released_end n (o ++ p ∷ []))
     where
-      one_more : (p : ℕ) → lowest (ready g o) (ids g) ≡ some p → (lowest (ready g ((o ++ p ∷ []) ++ released g n (o ++ p ∷ []))) (ids g) ≡ none) ⊎ (n ≤ length (released g n (o ++ p ∷ [])))
-          → (lowest (ready g (o ++ released g (suc n) o)) (ids g) ≡ none) ⊎ (suc n ≤ length (released g (suc n) o))
+      one_more : (p : ℕ) → lowest (ready g o) (ids g) ≡ Some p → (lowest (ready g ((o ++ p ∷ []) ++ released g n (o ++ p ∷ []))) (ids g) ≡ None) ⊎ (n ≤ length (released g n (o ++ p ∷ [])))
+          → (lowest (ready g (o ++ released g (suc n) o)) (ids g) ≡ None) ⊎ (suc n ≤ length (released g (suc n) o))
       one_more p e (inl h) = inl (rw (e, released) (rw append_assoc at h))
       one_more p e (inr h) = inr (rw (e, released) (omega arith))
 
-      go : (c : Option ℕ) → lowest (ready g o) (ids g) ≡ c → ((p : ℕ) → (lowest (ready g ((o ++ p ∷ []) ++ released g n (o ++ p ∷ []))) (ids g) ≡ none) ⊎ (n ≤ length (released g n (o ++ p ∷ []))))
-          → (lowest (ready g (o ++ released g (suc n) o)) (ids g) ≡ none) ⊎ (suc n ≤ length (released g (suc n) o))
-      go none e ih = inl (rw (e, released) (rw append-nil e))
-      go (some p) e ih = one_more p e (ih p)
+      go : (c : Option ℕ) → lowest (ready g o) (ids g) ≡ c → ((p : ℕ) → (lowest (ready g ((o ++ p ∷ []) ++ released g n (o ++ p ∷ []))) (ids g) ≡ None) ⊎ (n ≤ length (released g n (o ++ p ∷ []))))
+          → (lowest (ready g (o ++ released g (suc n) o)) (ids g) ≡ None) ⊎ (suc n ≤ length (released g (suc n) o))
+      go None e ih = inl (rw (e, released) (rw append-nil e))
+      go (Some p) e ih = one_more p e (ih p)
 
 -- READY ---------------------------------------------------------------------------------------
 
@@ -151,7 +150,7 @@ module _ (g : List Node) where
 
   -- WHAT CANNOT BE RELEASED LIES ON OR ABOVE A CYCLE ----------------------------------------------
 
-  module _ (inside : (p c : ℕ) → HasChild g p c → c < length g) (o : List ℕ) (stuck : lowest (ready g o) (ids g) ≡ none)
+  module _ (inside : (p c : ℕ) → HasChild g p c → c < length g) (o : List ℕ) (stuck : lowest (ready g o) (ids g) ≡ None)
       (holds : (x : ℕ) → x < length g → (is_external (at g x) ≡ true) ⊎ (is_block (at g x) ≡ true) → Memᴰ x o) where
     onward_kid : (x : ℕ) → x < length g → has x o ≡ false → (c : ℕ) × HasChild g x c × (has c o ≡ false)
     unfolding ids
@@ -188,7 +187,7 @@ module _ (g : List Node) where
   unfolding order
   order_all inside acyclic x h = go (has x (order g)) refl
     where
-      cases : has x (order g) ≡ false → (lowest (ready g ((begun g) ++ released g (length g) (begun g))) (ids g) ≡ none) ⊎ (length g ≤ length (released g (length g) (begun g))) → ⊥
+      cases : has x (order g) ≡ false → (lowest (ready g ((begun g) ++ released g (length g) (begun g))) (ids g) ≡ None) ⊎ (length g ≤ length (released g (length g) (begun g))) → ⊥
       cases e (inl stuck) =
           let (y, c) = chase inside (order g) stuck (λ z b k. Memᴰ.append_left _ (in_begun z b k)) (length g) x [] x e (root (Memᴰ.head refl)) (fresh Memᴰ.not-nil empty) (λ y m. rw (Memᴰ.eq_of_singleton m) h) (omega arith) in
           acyclic y c

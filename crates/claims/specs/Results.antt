@@ -1,10 +1,9 @@
 -- Canonicalize's result as bytes: it passes Validate, and canonicalizing it again changes no id.
 -- Assumes nothing.
-use Rattle.std.specs.Prelude.{ℕ, ◌+◌, ◌*◌, ◌^◌, ◌/◌, ◌%◌, ◌<◌, ◌≤◌, ◌≡◌, ltb}
+use Rattle.std.specs.Prelude.{ℕ, ◌+◌, ◌*◌, ◌^◌, ◌/◌, ◌%◌, ◌<◌, ◌≤◌, ◌≡◌, ltb, None}
 use Rattle.std.proofs.Common.{sym, ◌∙◌, drop_of_length-le}
 use Rattle.std.proofs.Math.Path.{ap}
 use mathlib.Core.List.{List, Memᴰ, append-nil}
-use Rattle.std.proofs.Math.Option.{none}
 use native.Mathlib.Omega.{arith}
 use borrow.Author.Tests.{ltb-false, eqb-true, not-false, le-ltb}
 use Rattle.std.proofs.Math.ListN.{length, length-map}
@@ -32,7 +31,7 @@ use Rattle.claims.specs.Releases.{length_order}
 use Rattle.claims.specs.Searches.{none_lowest, mem_at}
 
 -- children that are below their parents fit, so nodes that pass Validate's tests fit
-passing_fits : (ns : List Node) → Each Written ns → length ns ≤ most → first (node_faults ns) ≡ none → Each Fits ns
+passing_fits : (ns : List Node) → Each Written ns → length ns ≤ most → first (node_faults ns) ≡ None → Each Fits ns
 unfolding at
 passing_fits ns w few e n m =
     let (p, q) = mem_at no_node m in
@@ -42,10 +41,10 @@ passing_fits ns w few e n m =
     small p c k = let a = (valid ns e).kids p c k in let b = parent_below ns p c k in omega arith
 
 -- nodes of records that are not bad, written in an order that passes Validate's tests, are read again and accepted by Validate
-pub written_back : (ns : List Node) → Each Written ns → length ns ≤ most → first (node_faults ns) ≡ none → nodes_of (flat node_bytes ns) ≡ ns
+pub written_back : (ns : List Node) → Each Written ns → length ns ≤ most → first (node_faults ns) ≡ None → nodes_of (flat node_bytes ns) ≡ ns
 written_back ns w few e = nodes_back ns (passing_fits ns w few e)
 
-pub validates : (ns : List Node) → Each Written ns → length ns ≤ most → first (node_faults ns) ≡ none → validate (flat node_bytes ns) ≡ Accepted (length ns) 0
+pub validates : (ns : List Node) → Each Written ns → length ns ≤ most → first (node_faults ns) ≡ None → validate (flat node_bytes ns) ≡ Accepted (length ns) 0
 unfolding validate validate_refusals bad_record first when naming or_accepted
 validates ns w few e =
     let l : length (flat node_bytes ns) ≡ size * length ns = length_records ns (λ n m. (w n m).full) in
@@ -62,7 +61,7 @@ forest i = nodes_of i.nodes
 abbrev pub result : Input → List Node
 result i = arranged (forest i) (order (forest i))
 
-module _ (i : Input) (m : Room) (past : first (canonicalize_refusals i m) ≡ none) where
+module _ (i : Input) (m : Room) (past : first (canonicalize_refusals i m) ≡ None) where
   -- what its checks found
   pub record Cleared : Type 0 where
     pub few : length i.nodes / size ≤ most
@@ -70,8 +69,8 @@ module _ (i : Input) (m : Room) (past : first (canonicalize_refusals i m) ≡ no
     pub as_long : length m.nodes ≡ length i.nodes
     pub roots_long : length m.roots ≡ length i.roots
     pub ids_long : length m.ids ≡ length i.nodes / size
-    pub good : bad_record i.nodes ≡ none
-    pub differ : repeat (forest i) (externals (forest i)) ≡ none
+    pub good : bad_record i.nodes ≡ None
+    pub differ : repeat (forest i) (externals (forest i)) ≡ None
     pub inside : (p c : ℕ) → HasChild (forest i) p c → c < length (forest i)
     pub all_in : (x : ℕ) → x < length (forest i) → Memᴰ x (order (forest i))
 
@@ -104,7 +103,7 @@ module _ (i : Input) (m : Room) (past : first (canonicalize_refusals i m) ≡ no
   length_result = length-map (order (forest i)) _ ∙ length_order (forest i) cleared.all_in
 
   -- the result passes Validate's tests
-  pub result_passing : first (node_faults (result i)) ≡ none
+  pub result_passing : first (node_faults (result i)) ≡ None
   result_passing = result_passes (forest i) (records_bare i.nodes cleared.good) cleared.differ
 
   -- the node output is the result's records, and nothing else
@@ -144,5 +143,5 @@ module _ (i : Input) (m : Room) (past : first (canonicalize_refusals i m) ≡ no
         (ids_stay (result i) result_passing ∙ ap (run 0) length_result)
 
     -- and is accepted wherever its checks are cleared
-    pub again_accepted : (j : Input) (r : Room) → j.nodes ≡ (canonicalize i m).room.nodes → first (canonicalize_checks j r) ≡ none → IsAccepted (canonicalize j r)
+    pub again_accepted : (j : Input) (r : Room) → j.nodes ≡ (canonicalize i m).room.nodes → first (canonicalize_checks j r) ≡ None → IsAccepted (canonicalize j r)
     again_accepted j r e p = (accepted_exactly_if j r p).1 (rw (output_nodes j e) (valid_orderly (result i) (valid (result i) result_passing)))

@@ -1,14 +1,13 @@
 -- What a search in a list found, or that it found nothing.
 -- Assumes nothing.
 use Prim.Native.Nat.{ℕ, zero, suc, ◌+◌, ◌≤◌, ◌<◌}
-use Rattle.std.specs.Prelude.{◌≡◌, Bool, ◌||◌, ◌⊎◌, eqb, take, drop, get_or}
+use Rattle.std.specs.Prelude.{◌≡◌, Bool, ◌||◌, ◌⊎◌, eqb, take, drop, get_or, Option, Some, None}
 use Rattle.std.proofs.Math.Path.{refl}
 use Rattle.std.proofs.Common.{sym, ◌∙◌, ap, true≢false, inl, inr, eqb-true, eq-eqb}
 use Rattle.std.proofs.Math.Bool.{true, false, or-true}
 use Rattle.std.proofs.lemmas.Bool.{false≢true}
 use mathlib.Core.List.Memᴰ
 use mathlib.Core.List.{List, [], ◌∷◌, Memᴰ}
-use Rattle.std.proofs.Math.Option.{Option, some, none}
 use Rattle.std.proofs.Math.Decide.{ℕ_discrete}
 use native.Mathlib.Omega.{arith}
 use Rattle.std.proofs.Math.ListN.{length}
@@ -60,69 +59,69 @@ all_false t (y ∷ l) e = go (t y) refl (all_false t l)
 
 -- LOWEST, HIGHEST, LAST -------------------------------------------------------------------------
 
-here_or_none : (b : Bool) (o : Option ℕ) → here_or b o ≡ none → (b ≡ false) × (o ≡ none)
+here_or_none : (b : Bool) (o : Option ℕ) → here_or b o ≡ None → (b ≡ false) × (o ≡ None)
 unfolding here_or
 here_or_none true o e = absurd (clash (cc))
-here_or_none false none e = (refl, refl)
-here_or_none false (some i) e = absurd (clash (cc))
+here_or_none false None e = (refl, refl)
+here_or_none false (Some i) e = absurd (clash (cc))
 
-pub here_or_some : (b : Bool) (o : Option ℕ) (i : ℕ) → here_or b o ≡ some i → ((b ≡ true) × (i ≡ 0)) ⊎ ((j : ℕ) × (o ≡ some j) × (i ≡ suc j))
+pub here_or_some : (b : Bool) (o : Option ℕ) (i : ℕ) → here_or b o ≡ Some i → ((b ≡ true) × (i ≡ 0)) ⊎ ((j : ℕ) × (o ≡ Some j) × (i ≡ suc j))
 unfolding here_or
 here_or_some true o i e = inl (refl, cc)
-here_or_some false none i e = absurd (clash (cc))
-here_or_some false (some j) i e = inr (j, refl, cc)
+here_or_some false None i e = absurd (clash (cc))
+here_or_some false (Some j) i e = inr (j, refl, cc)
 
-here_or_past : (b : Bool) (o : Option ℕ) (i : ℕ) → here_or b o ≡ some i → 0 < i → (b ≡ false) × ((j : ℕ) × (o ≡ some j) × (i ≡ suc j))
+here_or_past : (b : Bool) (o : Option ℕ) (i : ℕ) → here_or b o ≡ Some i → 0 < i → (b ≡ false) × ((j : ℕ) × (o ≡ Some j) × (i ≡ suc j))
 unfolding here_or
 here_or_past true o i e h = let z : 0 ≡ i = cc in absurd (omega arith)
-here_or_past false none i e h = absurd (clash (cc))
-here_or_past false (some j) i e h = (refl, (j, refl, cc))
+here_or_past false None i e h = absurd (clash (cc))
+here_or_past false (Some j) i e h = (refl, (j, refl, cc))
 
 module _ {A : Type 0} where
-  later_none : (b : Bool) (x : A) (o : Option A) → later b x o ≡ none → (b ≡ false) × (o ≡ none)
+  later_none : (b : Bool) (x : A) (o : Option A) → later b x o ≡ None → (b ≡ false) × (o ≡ None)
   unfolding later
-  later_none b x (some y) e = absurd (clash (cc))
-  later_none true x none e = absurd (clash (cc))
-  later_none false x none e = (refl, refl)
+  later_none b x (Some y) e = absurd (clash (cc))
+  later_none true x None e = absurd (clash (cc))
+  later_none false x None e = (refl, refl)
 
   -- where none is found the test fails at each
-  pub lowest_none : (t : A → Bool) (l : List A) → lowest t l ≡ none → (x : A) → Memᴰ x l → t x ≡ false
+  pub lowest_none : (t : A → Bool) (l : List A) → lowest t l ≡ None → (x : A) → Memᴰ x l → t x ≡ false
   unfolding lowest
   lowest_none t [] e x x4 = elim x4 [ ]
   lowest_none t (y ∷ l) e x (Memᴰ.head h) = rw h (here_or_none (t y) (lowest t l) e).0
   lowest_none t (y ∷ l) e x (Memᴰ.tail m) = lowest_none t l (here_or_none (t y) (lowest t l) e).1 x m
 
-  pub last_of_none : (t : A → Bool) (l : List A) → last_of t l ≡ none → (x : A) → Memᴰ x l → t x ≡ false
+  pub last_of_none : (t : A → Bool) (l : List A) → last_of t l ≡ None → (x : A) → Memᴰ x l → t x ≡ false
   unfolding last_of
   last_of_none t [] e x x4 = elim x4 [ ]
   last_of_none t (y ∷ l) e x (Memᴰ.head h) = rw h (later_none (t y) y (last_of t l) e).0
   last_of_none t (y ∷ l) e x (Memᴰ.tail m) = last_of_none t l (later_none (t y) y (last_of t l) e).1 x m
 
-  pub highest_lt : (t : A → Bool) (l : List A) (q : ℕ) → highest t l ≡ some q → q < length l
+  pub highest_lt : (t : A → Bool) (l : List A) (q : ℕ) → highest t l ≡ Some q → q < length l
   unfolding highest there_or
   highest_lt t [] q e = absurd (clash (cc))
   highest_lt t (y ∷ l) q e = go (t y) (highest t l) (highest_lt t l) e
     where
-      go : (b : Bool) (o : Option ℕ) → ((k : ℕ) → o ≡ some k → k < length l) → there_or b o ≡ some q → q < suc (length l)
-      go b (some i) ih h = let u : i < length l = ih i refl in let v : suc i ≡ q = cc in omega arith
-      go true none ih h = let v : 0 ≡ q = cc in omega arith
-      go false none ih h = absurd (clash (cc))
+      go : (b : Bool) (o : Option ℕ) → ((k : ℕ) → o ≡ Some k → k < length l) → there_or b o ≡ Some q → q < suc (length l)
+      go b (Some i) ih h = let u : i < length l = ih i refl in let v : suc i ≡ q = cc in omega arith
+      go true None ih h = let v : 0 ≡ q = cc in omega arith
+      go false None ih h = absurd (clash (cc))
 
-  pub lowest_lt : (t : A → Bool) (l : List A) (i : ℕ) → lowest t l ≡ some i → i < length l
+  pub lowest_lt : (t : A → Bool) (l : List A) (i : ℕ) → lowest t l ≡ Some i → i < length l
   unfolding lowest
   lowest_lt t [] i e = absurd (clash (cc))
   lowest_lt t (x ∷ l) i e = go (here_or_some (t x) (lowest t l) i e) (lowest_lt t l)
     where
-      go : ((t x ≡ true) × (i ≡ 0)) ⊎ ((j : ℕ) × (lowest t l ≡ some j) × (i ≡ suc j)) → ((j : ℕ) → lowest t l ≡ some j → j < length l) → i < suc (length l)
+      go : ((t x ≡ true) × (i ≡ 0)) ⊎ ((j : ℕ) × (lowest t l ≡ Some j) × (i ≡ suc j)) → ((j : ℕ) → lowest t l ≡ Some j → j < length l) → i < suc (length l)
       go (inl (a, b)) ih = omega arith
       go (inr (j, a, b)) ih = let q = ih j a in omega arith
 
-  pub none_lowest : (t : A → Bool) (l : List A) → ((x : A) → Memᴰ x l → t x ≡ false) → lowest t l ≡ none
+  pub none_lowest : (t : A → Bool) (l : List A) → ((x : A) → Memᴰ x l → t x ≡ false) → lowest t l ≡ None
   unfolding lowest here_or
   none_lowest t [] h = refl
   none_lowest t (x ∷ l) h = rw (h x (Memᴰ.head refl), none_lowest t l (λ y m. h y (Memᴰ.tail m)))
 
-  pub none_last_of : (t : A → Bool) (l : List A) → ((x : A) → Memᴰ x l → t x ≡ false) → last_of t l ≡ none
+  pub none_last_of : (t : A → Bool) (l : List A) → ((x : A) → Memᴰ x l → t x ≡ false) → last_of t l ≡ None
   unfolding last_of later
   none_last_of t [] h = refl
   none_last_of t (x ∷ l) h = rw (h x (Memᴰ.head refl), none_last_of t l (λ y m. h y (Memᴰ.tail m)))
@@ -130,20 +129,20 @@ module _ {A : Type 0} where
 -- the search in a run of numbers finds a number
 
 -- the search's place in a run is the number there
-pub lowest_run : (t : ℕ → Bool) (a n i : ℕ) → lowest t (run a n) ≡ some i → (t (a + i) ≡ true) × (i < n)
+pub lowest_run : (t : ℕ → Bool) (a n i : ℕ) → lowest t (run a n) ≡ Some i → (t (a + i) ≡ true) × (i < n)
 unfolding lowest run
 lowest_run t a zero i e = absurd (clash (cc))
 lowest_run t a (suc n) i e = go (here_or_some (t a) (lowest t (run (suc a) n)) i e) (lowest_run t (suc a) n)
   where
-    go : ((t a ≡ true) × (i ≡ 0)) ⊎ ((j : ℕ) × (lowest t (run (suc a) n) ≡ some j) × (i ≡ suc j)) → ((j : ℕ) → lowest t (run (suc a) n) ≡ some j → (t (suc a + j) ≡ true) × (j < n)) → (t (a + i) ≡ true) × (i < suc n)
+    go : ((t a ≡ true) × (i ≡ 0)) ⊎ ((j : ℕ) × (lowest t (run (suc a) n) ≡ Some j) × (i ≡ suc j)) → ((j : ℕ) → lowest t (run (suc a) n) ≡ Some j → (t (suc a + j) ≡ true) × (j < n)) → (t (a + i) ≡ true) × (i < suc n)
     go (inl (h, z)) ih = (ap t (let q : a + i ≡ a = omega arith in q) ∙ h, omega arith)
     go (inr (j, k, z)) ih = let (u, v) = ih j k in (ap t (let q : a + i ≡ suc a + j = omega arith in q) ∙ u, omega arith)
 
-pub lowest_ids : (t : ℕ → Bool) (n p : ℕ) → lowest t (run 0 n) ≡ some p → (t p ≡ true) × (p < n)
+pub lowest_ids : (t : ℕ → Bool) (n p : ℕ) → lowest t (run 0 n) ≡ Some p → (t p ≡ true) × (p < n)
 lowest_ids t n p e = let (u, v) = lowest_run t 0 n p e in (ap t (let q : p ≡ 0 + p = omega arith in q) ∙ u, v)
 
 -- the search's place in a run is the first: at no number before it the test passes
-pub lowest_before : (t : ℕ → Bool) (a n i : ℕ) → lowest t (run a n) ≡ some i → (x : ℕ) → a ≤ x → x < a + i → t x ≡ false
+pub lowest_before : (t : ℕ → Bool) (a n i : ℕ) → lowest t (run a n) ≡ Some i → (x : ℕ) → a ≤ x → x < a + i → t x ≡ false
 unfolding lowest run
 lowest_before t a zero i e x p q = absurd (clash (cc))
 lowest_before t a (suc n) i e x p q =
@@ -160,7 +159,7 @@ lowest_agree t u a zero h = refl
 lowest_agree t u a (suc n) h = rw (h a (omega arith) (omega arith), lowest_agree t u (suc a) n (λ x p q. h x (omega arith) (omega arith)))
 
 -- the search in a run finds the first number at which the test passes
-pub lowest_at : (t : ℕ → Bool) (a n k : ℕ) → ((x : ℕ) → x < a + k → t x ≡ false) → t (a + k) ≡ true → k < n → lowest t (run a n) ≡ some k
+pub lowest_at : (t : ℕ → Bool) (a n k : ℕ) → ((x : ℕ) → x < a + k → t x ≡ false) → t (a + k) ≡ true → k < n → lowest t (run a n) ≡ Some k
 unfolding lowest run here_or
 lowest_at t a zero k f e h = absurd (omega arith)
 lowest_at t a (suc n) zero f e h = let q : a + 0 ≡ a = omega arith in rw (rw q at e)
@@ -170,18 +169,18 @@ lowest_at t a (suc n) (suc k) f e h =
 
 -- FIRSTSOME -------------------------------------------------------------------------------------
 
-pub first_some_none : (i : ℕ) (l : List (Option ℕ)) → first_some i l ≡ none → (o : Option ℕ) → Memᴰ o l → o ≡ none
+pub first_some_none : (i : ℕ) (l : List (Option ℕ)) → first_some i l ≡ None → (o : Option ℕ) → Memᴰ o l → o ≡ None
 unfolding first_some
 first_some_none i [] e o m = elim m [ ]
-first_some_none i (none ∷ l) e o (Memᴰ.head h) = h
-first_some_none i (none ∷ l) e o (Memᴰ.tail m) = first_some_none (suc i) l e o m
-first_some_none i (some c ∷ l) e o m = absurd (clash (cc))
+first_some_none i (None ∷ l) e o (Memᴰ.head h) = h
+first_some_none i (None ∷ l) e o (Memᴰ.tail m) = first_some_none (suc i) l e o m
+first_some_none i (Some c ∷ l) e o m = absurd (clash (cc))
 
-pub none_first_some : (i : ℕ) (l : List (Option ℕ)) → ((o : Option ℕ) → Memᴰ o l → o ≡ none) → first_some i l ≡ none
+pub none_first_some : (i : ℕ) (l : List (Option ℕ)) → ((o : Option ℕ) → Memᴰ o l → o ≡ None) → first_some i l ≡ None
 unfolding first_some
 none_first_some i [] h = refl
-none_first_some i (none ∷ l) h = none_first_some (suc i) l (λ o m. h o (Memᴰ.tail m))
-none_first_some i (some c ∷ l) h = absurd (clash (let z = h (some c) (Memᴰ.head refl) in cc))
+none_first_some i (None ∷ l) h = none_first_some (suc i) l (λ o m. h o (Memᴰ.tail m))
+none_first_some i (Some c ∷ l) h = absurd (clash (let z = h (Some c) (Memᴰ.head refl) in cc))
 
 -- ELEMENTS --------------------------------------------------------------------------------------
 

@@ -1,8 +1,7 @@
 -- A call that passes its checks, and what its outcome then hangs on.
 -- Assumes nothing.
-use Rattle.std.specs.Prelude.{ℕ, ◌/◌, ◌≤◌, ◌≡◌, refl, Bool, true, false, ◌||◌, List, [], ◌∷◌, ◌++◌, ltb, length}
+use Rattle.std.specs.Prelude.{ℕ, ◌/◌, ◌≤◌, ◌≡◌, refl, Bool, true, false, ◌||◌, List, [], ◌∷◌, ◌++◌, ltb, length, Option, None}
 use Rattle.std.proofs.Common.{◌∙◌, ltb-false, le-ltb}
-use Rattle.std.proofs.Math.Option.{Option, none}
 use Rattle.record.specs.Node.{size}
 use Rattle.record.proofs.Basics.{clash, either_false}
 use Rattle.forest.specs.Lent.{Input, Room, Outcome, Result, refuse, accept, when, first, answered}
@@ -13,7 +12,7 @@ use Rattle.forest.specs.declared.Reply.TheVariants.{Accepted, Cycle, TooDeep, No
 use Rattle.claims.specs.Checks.{first_append}
 
 -- checks that pass decide nothing
-pub answered_past : (m : Room) (os ps : List (Option Reply)) (r : Result) → first os ≡ none → answered m (os ++ ps) r ≡ answered m ps r
+pub answered_past : (m : Room) (os ps : List (Option Reply)) (r : Result) → first os ≡ None → answered m (os ++ ps) r ≡ answered m ps r
 unfolding answered
 answered_past m os ps r e = rw (first_append os ps e, answered)
 
@@ -28,7 +27,7 @@ settled i m (cycle p) = refuse m (Cycle p)
 settled i m (deep p) = refuse m (TooDeep p)
 
 -- a merge past its checks answers what its walk comes to
-pub past_checks : (limit : ℕ) (i : Input) (m : Room) → first (merge_checks limit i m) ≡ none → merge limit i m ≡ settled i m (walk (graph i) limit (roots_of i))
+pub past_checks : (limit : ℕ) (i : Input) (m : Room) → first (merge_checks limit i m) ≡ None → merge limit i m ≡ settled i m (walk (graph i) limit (roots_of i))
 unfolding merge merge_refusals answered first stopped state_of settled delivered
 past_checks limit i m e = answered_past m (merge_checks limit i m) _ _ e ∙ walked (walk (graph i) limit (roots_of i))
   where

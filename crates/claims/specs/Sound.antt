@@ -1,12 +1,11 @@
 -- What a finished walk has merged: each node's children stand before it, no two nodes are equal, every id is that of a merged
 -- node, and no position is finished twice.
 -- Assumes nothing.
-use Rattle.std.specs.Prelude.{ℕ, ◌<◌, ◌≤◌, ◌≡◌, Bool, true, false, ◌⊎◌, eqb}
+use Rattle.std.specs.Prelude.{ℕ, ◌<◌, ◌≤◌, ◌≡◌, Bool, true, false, ◌⊎◌, eqb, Option, Some, None}
 use Rattle.std.proofs.Math.Path.{refl}
 use Rattle.std.proofs.Common.{sym, inl, inr, arith, length-append}
 use mathlib.Core.List.Memᴰ
 use mathlib.Core.List.{List, [], ◌∷◌, ◌++◌, Memᴰ}
-use Rattle.std.proofs.Math.Option.{Option, some, none}
 use Rattle.std.proofs.lemmas.Bool.{eqb-false}
 use Rattle.std.proofs.Math.ListN.{length}
 use Rattle.record.specs.Node.{children, renumber, same_node}
@@ -34,7 +33,7 @@ pub record Origin (g : List Node) (x : Node) : Type 0 where
 
 pub record Sound (g : List Node) (s : State) : Type 0 where
   pub merged_built : Built s.merged
-  pub named : (p i : ℕ) → id_in s.done p ≡ some i → i < length s.merged
+  pub named : (p i : ℕ) → id_in s.done p ≡ Some i → i < length s.merged
   pub single : Distinct (positions s.done)
   pub few : length s.merged ≤ length s.done
   pub origin : (x : Node) → Memᴰ x s.merged → Origin g x
@@ -53,26 +52,26 @@ abbrev pub Each : List Node → List ℕ → List ℕ → State → State → Ty
 Each g path ps s t = Sound g s → ((x : ℕ) → Memᴰ x path → ¬ Finished s x) → After g path ps s t
 
 -- a finished position has an id
-pub in_id_in : (d : List (ℕ × ℕ)) (p : ℕ) → Memᴰ p (positions d) → (i : ℕ) × (id_in d p ≡ some i)
+pub in_id_in : (d : List (ℕ × ℕ)) (p : ℕ) → Memᴰ p (positions d) → (i : ℕ) × (id_in d p ≡ Some i)
 unfolding id_in
 in_id_in [] p m = absurd (Memᴰ.not-nil m)
 in_id_in (e ∷ es) p m = go (eqb p e.0) refl (in_id_in es p) (Memᴰ.cases_cons m)
   where
-    further : eqb p e.0 ≡ false → (i : ℕ) × (id_in es p ≡ some i) → (i : ℕ) × (id_in (e ∷ es) p ≡ some i)
+    further : eqb p e.0 ≡ false → (i : ℕ) × (id_in es p ≡ Some i) → (i : ℕ) × (id_in (e ∷ es) p ≡ Some i)
     further t (i, h) = (i, rw (t, id_in) h)
 
-    go : (b : Bool) → eqb p e.0 ≡ b → (Memᴰ p (positions es) → (i : ℕ) × (id_in es p ≡ some i)) → (p ≡ e.0) ⊎ Memᴰ p (positions es) → (i : ℕ) × (id_in (e ∷ es) p ≡ some i)
+    go : (b : Bool) → eqb p e.0 ≡ b → (Memᴰ p (positions es) → (i : ℕ) × (id_in es p ≡ Some i)) → (p ≡ e.0) ⊎ Memᴰ p (positions es) → (i : ℕ) × (id_in (e ∷ es) p ≡ Some i)
     go true t ih c = (e.1, rw (t, id_in))
     go false t ih (inl q) = absurd (eqb-false p e.0 t q)
     go false t ih (inr k) = further t (ih k)
 
 -- the ids after one more is given
-pub id_in_ended : (d : List (ℕ × ℕ)) (p i x j : ℕ) → id_in ((p, i) ∷ d) x ≡ some j → (j ≡ i) ⊎ (id_in d x ≡ some j)
+pub id_in_ended : (d : List (ℕ × ℕ)) (p i x j : ℕ) → id_in ((p, i) ∷ d) x ≡ Some j → (j ≡ i) ⊎ (id_in d x ≡ Some j)
 unfolding id_in
 id_in_ended d p i x j e = go (eqb x p) refl
   where
-    go : (b : Bool) → eqb x p ≡ b → (j ≡ i) ⊎ (id_in d x ≡ some j)
-    go true t = inl (let z : some i ≡ some j = rw (t, id_in) at e in cc)
+    go : (b : Bool) → eqb x p ≡ b → (j ≡ i) ⊎ (id_in d x ≡ Some j)
+    go true t = inl (let z : Some i ≡ Some j = rw (t, id_in) at e in cc)
     go false t = inr (rw (t, id_in) at e)
 
 pub id_of_lt : (g : List Node) (s : State) (p : ℕ) → Sound g s → Finished s p → id_of s p < length s.merged
@@ -90,7 +89,7 @@ sound_ended g p i s h f b = record {
   origin = h.origin;
 }
   where
-    from : (x j : ℕ) → (j ≡ i) ⊎ (id_in s.done x ≡ some j) → j < length s.merged
+    from : (x j : ℕ) → (j ≡ i) ⊎ (id_in s.done x ≡ Some j) → j < length s.merged
     from x j (inl e) = rw e b
     from x j (inr e) = h.named x j e
 
@@ -106,7 +105,7 @@ sound_new g p n s h f k d o = record {
   origin = λ x m. whence x (Memᴰ.append_cases s.merged m);
 }
   where
-    from : (x j : ℕ) → (j ≡ length s.merged) ⊎ (id_in s.done x ≡ some j) → j < length (s.merged ++ n ∷ [])
+    from : (x j : ℕ) → (j ≡ length s.merged) ⊎ (id_in s.done x ≡ Some j) → j < length (s.merged ++ n ∷ [])
     from x j (inl e) = let z = length-append s.merged (n ∷ []) in omega arith
     from x j (inr e) = let z = length-append s.merged (n ∷ []) in let q = h.named x j e in omega arith
 
@@ -119,8 +118,8 @@ unfolding push
 sound_push g p n s h f k o = go (lowest (same_node n) s.merged) refl
   where
     go : (o' : Option ℕ) → lowest (same_node n) s.merged ≡ o' → Sound g (push p n s)
-    go none e = rw (e, push) (sound_new g p n s h f k (lowest_none (same_node n) s.merged e) o)
-    go (some i) e = rw (e, push) (sound_ended g p i s h f (lowest_lt (same_node n) s.merged i e))
+    go None e = rw (e, push) (sound_new g p n s h f k (lowest_none (same_node n) s.merged e) o)
+    go (Some i) e = rw (e, push) (sound_ended g p i s h f (lowest_lt (same_node n) s.merged i e))
 
 module _ (g : List Node) where
   pub sound_finish : (p : ℕ) (s : State) → Sound g s → ¬ Finished s p → ((x : ℕ) → Memᴰ x (next g p) → Finished s x) → Sound g (finish g p s)
@@ -131,8 +130,8 @@ module _ (g : List Node) where
       kid c (x, m, e) = rw (sym e) (id_of_lt g s x h (k x (Memᴰ.append_left (listed (replaced_by g p)) m)))
 
       go : (o : Option ℕ) → replaced_by g p ≡ o → Sound g (finish g p s)
-      go none e = rw (e, finish) (sound_push g p (renumber (id_of s) (at g p)) s h f (λ c m. kid c (child_from (id_of s) (at g p) c m)) (record { place = p; ids = id_of s; is = refl }))
-      go (some q) e = rw (e, finish) (sound_ended g p (id_of s q) s h f (id_of_lt g s q h (k q (Memᴰ.append_right (children (at g p)) (rw e (Memᴰ.head refl))))))
+      go None e = rw (e, finish) (sound_push g p (renumber (id_of s) (at g p)) s h f (λ c m. kid c (child_from (id_of s) (at g p) c m)) (record { place = p; ids = id_of s; is = refl }))
+      go (Some q) e = rw (e, finish) (sound_ended g p (id_of s q) s h f (id_of_lt g s q h (k q (Memᴰ.append_right (children (at g p)) (rw e (Memᴰ.head refl))))))
 
   followed : (s t u : State) (path : List ℕ) (p : ℕ) (ps : List ℕ) → After g path (p ∷ []) s t → After g path ps t u → After g path (p ∷ ps) s u
   followed s t u path p ps a b = record { sound = b.sound; unfinished = b.unfinished; kept = λ x m. b.kept x (a.kept x m); done_all = λ x m. from x (Memᴰ.cases_cons m) }
@@ -142,7 +141,7 @@ module _ (g : List Node) where
       from x (inr m) = b.done_all x m
 
   -- before p is opened neither it nor what is open is finished
-  not_yet : (path : List ℕ) (p : ℕ) (s : State) → id_in s.done p ≡ none → ((x : ℕ) → Memᴰ x path → ¬ Finished s x) → (x : ℕ) → Memᴰ x (p ∷ path) → ¬ Finished s x
+  not_yet : (path : List ℕ) (p : ℕ) (s : State) → id_in s.done p ≡ None → ((x : ℕ) → Memᴰ x path → ¬ Finished s x) → (x : ℕ) → Memᴰ x (p ∷ path) → ¬ Finished s x
   not_yet path p s e f x m k = from (Memᴰ.cases_cons m)
     where
       from : (x ≡ p) ⊎ Memᴰ x path → ⊥
@@ -161,7 +160,7 @@ module _ (g : List Node) where
       still x m (inl e) = n (rw e at m)
       still x m (inr k) = a.unfinished x (Memᴰ.tail m) k
 
-  passed : (path : List ℕ) (p : ℕ) (s : State) (i : ℕ) → id_in s.done p ≡ some i → Each g path (p ∷ []) s s
+  passed : (path : List ℕ) (p : ℕ) (s : State) (i : ℕ) → id_in s.done p ≡ Some i → Each g path (p ∷ []) s s
   passed path p s i q h f = record { sound = h; unfinished = f; kept = λ x m. m; done_all = λ x m. rw (Memᴰ.eq_of_singleton m) (id_in_in s.done p i q) }
 
   stayed : (path : List ℕ) (s : State) → Each g path [] s s
@@ -170,7 +169,7 @@ module _ (g : List Node) where
   joined_each : (path : List ℕ) (p : ℕ) (ps : List ℕ) (s t u : State) → Each g path (p ∷ []) s t → Each g path ps t u → Each g path (p ∷ ps) s u
   joined_each path p ps s t u a b h f = followed s t u path p ps (a h f) (b (a h f).sound (a h f).unfinished)
 
-  opened_each : (path : List ℕ) (p : ℕ) (s t : State) → ¬ Memᴰ p path → id_in s.done p ≡ none → Each g (p ∷ path) (next g p) s t → Each g path (p ∷ []) s (finish g p t)
+  opened_each : (path : List ℕ) (p : ℕ) (s t : State) → ¬ Memᴰ p path → id_in s.done p ≡ None → Each g (p ∷ path) (next g p) s t → Each g path (p ∷ []) s (finish g p t)
   opened_each path p s t n q a h f = opened_after path p s t n (a h (not_yet path p s q f))
 
   -- what a visit comes to is sound, and what was finished or is visited is finished

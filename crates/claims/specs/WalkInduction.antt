@@ -1,11 +1,10 @@
 -- Induction over a walk that goes to its end.
 -- Assumes nothing.
 use Prim.Native.Nat.{ℕ, zero, suc}
-use Rattle.std.specs.Prelude.{◌≡◌, Bool}
+use Rattle.std.specs.Prelude.{◌≡◌, Bool, Option, Some, None}
 use Rattle.std.proofs.Math.Path.{refl}
 use Rattle.std.proofs.Common.{sym}
 use mathlib.Core.List.{List, [], ◌∷◌, Memᴰ}
-use Rattle.std.proofs.Math.Option.{Option, some, none}
 use Rattle.record.specs.declared.Node.{Node}
 use Rattle.record.proofs.Basics.{clash}
 use Rattle.forest.specs.Graph.{next}
@@ -14,10 +13,10 @@ use Rattle.forest.specs.Walk.{State, start, Walked, going, cycle, deep, id_in, M
 use Rattle.claims.specs.Searches.{not_in}
 use Rattle.claims.specs.Walks.{unseen_has, finished_some}
 
-unseen_none : (o : Option ℕ) (b : Bool) → marked o b ≡ unseen → o ≡ none
+unseen_none : (o : Option ℕ) (b : Bool) → marked o b ≡ unseen → o ≡ None
 unfolding marked
-unseen_none (some i) b e = cc
-unseen_none none b e = refl
+unseen_none (Some i) b e = cc
+unseen_none None b e = refl
 
 -- a walk that goes on did both of its parts
 pub onward_going : (w : Walked) (f : State → Walked) (u : State) → onward w f ≡ going u → (t : State) × (w ≡ going t) × (f t ≡ going u)
@@ -27,10 +26,10 @@ onward_going (cycle p) f u e = absurd (clash (cc))
 onward_going (deep p) f u e = absurd (clash (cc))
 
 module _ (g : List Node) (P : List ℕ → ℕ → State → State → Type 0) (Ps : List ℕ → List ℕ → State → State → Type 0)
-    (over : (path : List ℕ) (p : ℕ) (s : State) (i : ℕ) → id_in s.done p ≡ some i → P path p s s)
+    (over : (path : List ℕ) (p : ℕ) (s : State) (i : ℕ) → id_in s.done p ≡ Some i → P path p s s)
     (nil : (path : List ℕ) (s : State) → Ps path [] s s)
     (cons : (path : List ℕ) (p : ℕ) (ps : List ℕ) (s t u : State) → P path p s t → Ps path ps t u → Ps path (p ∷ ps) s u)
-    (opening : (path : List ℕ) (p : ℕ) (s t : State) → ¬ Memᴰ p path → id_in s.done p ≡ none → Ps (p ∷ path) (next g p) s t → P path p s (finish g p t)) where
+    (opening : (path : List ℕ) (p : ℕ) (s t : State) → ¬ Memᴰ p path → id_in s.done p ≡ None → Ps (p ∷ path) (next g p) s t → P path p s (finish g p t)) where
   each_ind : (f : ℕ → State → Walked) (path : List ℕ) → ((c : ℕ) (s t : State) → f c s ≡ going t → P path c s t) → (ps : List ℕ) (s u : State) → each f ps s ≡ going u → Ps path ps s u
   unfolding each
   each_ind f path h [] s u e = let q : s ≡ u = cc in rw (sym q) (nil path s)

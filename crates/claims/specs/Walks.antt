@@ -1,12 +1,11 @@
 -- Why the walk answers what it answers: what it met, on a path from a root.
 -- Assumes nothing.
 use Prim.Native.Nat.{ℕ, zero, suc, ◌+◌}
-use Rattle.std.specs.Prelude.{◌≡◌, Bool, true, false, ◌⊎◌, eqb, length}
+use Rattle.std.specs.Prelude.{◌≡◌, Bool, true, false, ◌⊎◌, eqb, length, Option, Some, None}
 use Rattle.std.proofs.Math.Path.{refl}
 use Rattle.std.proofs.Common.{sym, ◌∙◌, ap, inl, inr, arith, eqb-true}
 use mathlib.Core.List.Memᴰ
 use mathlib.Core.List.{List, [], ◌∷◌, map, Memᴰ}
-use Rattle.std.proofs.Math.Option.{Option, some, none}
 use Rattle.record.specs.Node.{children, same_node}
 use Rattle.record.specs.declared.Node.{Node}
 use Rattle.record.proofs.Basics.{clash}
@@ -23,8 +22,8 @@ unfolding next listed
 next_step g p c m = go (Memᴰ.append_cases (children (at g p)) m)
   where
     from : (o : Option ℕ) → replaced_by g p ≡ o → Memᴰ c (listed o) → Step g p c
-    from none e n = absurd (Memᴰ.not-nil n)
-    from (some q) e n = replaced (e ∙ ap {B = Option ℕ} some (sym (Memᴰ.eq_of_singleton n)))
+    from None e n = absurd (Memᴰ.not-nil n)
+    from (Some q) e n = replaced (e ∙ ap {B = Option ℕ} Some (sym (Memᴰ.eq_of_singleton n)))
 
     go : Memᴰ c (children (at g p)) ⊎ Memᴰ c (listed (replaced_by g p)) → Step g p c
     go (inl n) = child n
@@ -33,32 +32,32 @@ next_step g p c m = go (Memᴰ.append_cases (children (at g p)) m)
 -- what is open is open because it lies on the path; what is unseen does not
 pub opened_has : (o : Option ℕ) (b : Bool) → marked o b ≡ opened → b ≡ true
 unfolding marked
-opened_has (some i) b e = cc
-opened_has none true e = refl
-opened_has none false e = cc
+opened_has (Some i) b e = cc
+opened_has None true e = refl
+opened_has None false e = cc
 
 pub unseen_has : (o : Option ℕ) (b : Bool) → marked o b ≡ unseen → b ≡ false
 unfolding marked
-unseen_has (some i) b e = cc
-unseen_has none true e = cc
-unseen_has none false e = refl
+unseen_has (Some i) b e = cc
+unseen_has None true e = cc
+unseen_has None false e = refl
 
-pub finished_some : (o : Option ℕ) (b : Bool) → marked o b ≡ finished → (i : ℕ) × (o ≡ some i)
+pub finished_some : (o : Option ℕ) (b : Bool) → marked o b ≡ finished → (i : ℕ) × (o ≡ Some i)
 unfolding marked
-finished_some (some i) b e = (i, refl)
-finished_some none true e = absurd (clash (cc))
-finished_some none false e = absurd (clash (cc))
+finished_some (Some i) b e = (i, refl)
+finished_some None true e = absurd (clash (cc))
+finished_some None false e = absurd (clash (cc))
 
 -- the finished positions
 abbrev pub positions : List (ℕ × ℕ) → List ℕ
 positions d = map (λ e. e.0) d
 
-pub id_in_in : (d : List (ℕ × ℕ)) (p i : ℕ) → id_in d p ≡ some i → Memᴰ p (positions d)
+pub id_in_in : (d : List (ℕ × ℕ)) (p i : ℕ) → id_in d p ≡ Some i → Memᴰ p (positions d)
 unfolding id_in
 id_in_in [] p i h = absurd (clash (cc))
 id_in_in (e ∷ es) p i h = go (eqb p e.0) refl (id_in_in es p i)
   where
-    go : (b : Bool) → eqb p e.0 ≡ b → (id_in es p ≡ some i → Memᴰ p (positions es)) → Memᴰ p (positions (e ∷ es))
+    go : (b : Bool) → eqb p e.0 ≡ b → (id_in es p ≡ Some i → Memᴰ p (positions es)) → Memᴰ p (positions (e ∷ es))
     go true t ih = Memᴰ.head (eqb-true p e.0 t)
     go false t ih = Memᴰ.tail (ih (rw (t, id_in) at h))
 
@@ -68,12 +67,12 @@ unfolding finish push ended
 finish_positions g p s = go (replaced_by g p) refl
   where
     pushed : (n : Node) (o : Option ℕ) → lowest (same_node n) s.merged ≡ o → positions (push p n s).done ≡ p ∷ positions s.done
-    pushed n none e = rw (e, push)
-    pushed n (some i) e = rw (e, push)
+    pushed n None e = rw (e, push)
+    pushed n (Some i) e = rw (e, push)
 
     go : (o : Option ℕ) → replaced_by g p ≡ o → positions (finish g p s).done ≡ p ∷ positions s.done
-    go none e = rw (e, finish) (pushed _ _ refl)
-    go (some q) e = rw (e, finish)
+    go None e = rw (e, finish) (pushed _ _ refl)
+    go (Some q) e = rw (e, finish)
 
 -- the list holds, with each node, where one comes from it, further on in the list
 pub data Closed (g : List Node) : List ℕ → Type 0 where

@@ -4,7 +4,7 @@ use Prim.Native.Nat.{ℕ, ◌+◌, ◌*◌, ◌/◌, ◌%◌, ◌≤◌}
 use mathlib.Core.Path.{◌≡◌, refl, sym, ◌∙◌, ap}
 use mathlib.Core.Bool.{true, false}
 use mathlib.Core.List.{List, [], ◌++◌, append-nil}
-use mathlib.Core.Option.{Option, none}
+use Rattle.std.specs.Prelude.{Option, None}
 use native.Mathlib.Omega.{arith}
 use borrow.Author.Tests.{ltb-false, eqb-true, not-false}
 use lib.ListN.{length, replicate, length-map, drop_of_length-le}
@@ -78,7 +78,7 @@ module _ (s rs a b c w : List ℕ) where
   unfolding canonicalize canonicalize_refusals canonicalize_checks size_checks forest_checks
   by_steps = refl
 
-  sized : first sizes ≡ none → Sized s rs a b c w
+  sized : first sizes ≡ None → Sized s rs a b c w
   unfolding size_checks
   sized e =
       let (e1, r1) = first_none _ _ e in
@@ -109,7 +109,7 @@ module _ (s rs a b c w : List ℕ) where
         ∙ rw (sizes_leave (length s) (length rs) (length a) (length b) (length c) (length w) r f, worked))
 
     module _ (passed : q ≡ Passed) where
-      fits : first sizes ≡ none
+      fits : first sizes ≡ None
       fits = passed_none (first sizes) (sym said ∙ passed)
 
       pub lengths : Sized s rs a b c w

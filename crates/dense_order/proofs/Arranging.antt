@@ -4,7 +4,7 @@ use Prim.Native.Nat.{ℕ, ◌/◌, ◌<◌}
 use mathlib.Core.Path.{◌≡◌, ◌∙◌}
 use mathlib.Core.Bool.{not}
 use mathlib.Core.List.{List, [], ◌∷◌, map}
-use mathlib.Core.Option.{Option, some, none}
+use Rattle.std.specs.Prelude.{Option, Some, None}
 use native.Mathlib.Omega.{arith}
 use native.Mathlib.Decide.{dec_lt}
 use lib.Dec.{ltb, eqb}
@@ -43,34 +43,34 @@ use Rattle.dense_order.proofs.RootRange.{far_root_is}
 
 -- REFUSALS ----------------------------------------------------------------------------------------
 
-pub refuses : {os : List (Option Reply)} {s w : List ℕ} {n : ℕ} (r : Reply) → first os ≡ some r → Answers os s w n (Refused r)
+pub refuses : {os : List (Option Reply)} {s w : List ℕ} {n : ℕ} (r : Reply) → first os ≡ Some r → Answers os s w n (Refused r)
 unfolding check_of
 refuses r e = record { answer = rw e; arranged = λ z. absurd (clash cc) }
 
 module _ (g : List Node) where
-  pub duplicate : (p : ℕ) → repeat g (externals g) ≡ some p → first (disorders g) ≡ some (DuplicateExternal p)
+  pub duplicate : (p : ℕ) → repeat g (externals g) ≡ Some p → first (disorders g) ≡ Some (DuplicateExternal p)
   unfolding disorders naming first
   duplicate p e = rw e
 
-  module _ (differ : repeat g (externals g) ≡ none) where
-    pub too_far : (r : Far) (p c : ℕ) → r ≡ far_of (far_child (alone g [])) → r ≡ At p c → first (disorders g) ≡ some (ChildRange p c)
+  module _ (differ : repeat g (externals g) ≡ None) where
+    pub too_far : (r : Far) (p c : ℕ) → r ≡ far_of (far_child (alone g [])) → r ≡ At p c → first (disorders g) ≡ Some (ChildRange p c)
     unfolding disorders child_range naming first far_of
     too_far r p c e q = rw differ (go (far_child (alone g [])) e)
       where
-        go : (o : Option (ℕ × ℕ)) → r ≡ far_of o → first (naming (λ e. ChildRange e.0 e.1) o ∷ naming Cycle (unreleased g) ∷ []) ≡ some (ChildRange p c)
-        go none e = absurd (clash cc)
-        go (some d) e = cc
+        go : (o : Option (ℕ × ℕ)) → r ≡ far_of o → first (naming (λ e. ChildRange e.0 e.1) o ∷ naming Cycle (unreleased g) ∷ []) ≡ Some (ChildRange p c)
+        go None e = absurd (clash cc)
+        go (Some d) e = cc
 
-    module _ (near : far_child (alone g []) ≡ none) where
-      pub cyclic : (p : ℕ) → unreleased g ≡ some p → first (disorders g) ≡ some (Cycle p)
+    module _ (near : far_child (alone g []) ≡ None) where
+      pub cyclic : (p : ℕ) → unreleased g ≡ Some p → first (disorders g) ≡ Some (Cycle p)
       unfolding disorders child_range naming first
       cyclic p e = rw (differ, near, e)
 
-      passing : unreleased g ≡ none → first (disorders g) ≡ none
+      passing : unreleased g ≡ None → first (disorders g) ≡ None
       unfolding disorders child_range naming first
       passing e = rw (differ, near, e)
 
-pub passes : {s w : List ℕ} {n : ℕ} {r : Place} → repeat (nodes_of s) (externals (nodes_of s)) ≡ none → far_child (alone (nodes_of s) []) ≡ none → Ordered s w n r → r ≡ Nothing
+pub passes : {s w : List ℕ} {n : ℕ} {r : Place} → repeat (nodes_of s) (externals (nodes_of s)) ≡ None → far_child (alone (nodes_of s) []) ≡ None → Ordered s w n r → r ≡ Nothing
     → Answers (disorders (nodes_of s)) s w n Passed
 unfolding check_of
 passes {s} {w} {n} {r} differ near o e =
@@ -84,32 +84,32 @@ externals_numbered {s} x = rw (x.first, externals_kind s) (sort_all (less s) (ke
 
 -- what the search among the listed externals says of all
 module _ {s w : List ℕ} {n r : ℕ} (x : Externals s w n r) (q : Place) (said : q ≡ place_of (repeat (nodes_of s) (span w 0 r))) where
-  pub one_repeats : (p : ℕ) → q ≡ room.At p → repeat (nodes_of s) (externals (nodes_of s)) ≡ some p
+  pub one_repeats : (p : ℕ) → q ≡ room.At p → repeat (nodes_of s) (externals (nodes_of s)) ≡ Some p
   one_repeats p e = at_some _ q p (said ∙ rw x.first) e
 
-  pub none_repeats : q ≡ Nothing → repeat (nodes_of s) (externals (nodes_of s)) ≡ none
+  pub none_repeats : q ≡ Nothing → repeat (nodes_of s) (externals (nodes_of s)) ≡ None
   none_repeats e = nothing_none _ q (said ∙ rw x.first) e
 
 -- RECORDS AND ROOTS -------------------------------------------------------------------------------
 
-pub records_good : (s : List ℕ) → lowest bad (nodes_of s) ≡ none → bad_record s ≡ none
+pub records_good : (s : List ℕ) → lowest bad (nodes_of s) ≡ None → bad_record s ≡ None
 unfolding bad_record naming
 records_good s e = rw e
 
 module _ (s rs : List ℕ) where
-  pub record_refused : (p : ℕ) → lowest bad (nodes_of s) ≡ some p → first (forest_checks s rs) ≡ some (BadRecord p)
+  pub record_refused : (p : ℕ) → lowest bad (nodes_of s) ≡ Some p → first (forest_checks s rs) ≡ Some (BadRecord p)
   unfolding forest_checks bad_record naming first
   record_refused p e = rw e
 
-  module _ {n : ℕ} (counted : n ≡ length s / size) (good-records : bad_record s ≡ none) where
+  module _ {n : ℕ} (counted : n ≡ length s / size) (good-records : bad_record s ≡ None) where
     roots_are : lowest not (map (λ x. ltb x n) rs) ≡ far_root (alone (nodes_of s) rs)
     roots_are = rw (far_root_is (nodes_of s) rs, length_nodes_of s, counted)
 
-    pub root_refused : (i : ℕ) → lowest not (map (λ x. ltb x n) rs) ≡ some i → first (forest_checks s rs) ≡ some (RootRange i)
+    pub root_refused : (i : ℕ) → lowest not (map (λ x. ltb x n) rs) ≡ Some i → first (forest_checks s rs) ≡ Some (RootRange i)
     unfolding forest_checks root_range naming first
     root_refused i e = rw (good-records, ← roots_are, e)
 
-    pub onward : {w : List ℕ} {r : Check} → lowest not (map (λ x. ltb x n) rs) ≡ none → Answers (disorders (nodes_of s)) s w n r → Answers (forest_checks s rs) s w n r
+    pub onward : {w : List ℕ} {r : Check} → lowest not (map (λ x. ltb x n) rs) ≡ None → Answers (disorders (nodes_of s)) s w n r → Answers (forest_checks s rs) s w n r
     unfolding forest_checks root_range naming first
     onward e a = record { answer = a.answer ∙ rw (good-records, ← roots_are, e); arranged = λ z. a.arranged (let y = z in rw (good-records, ← roots_are, e) at y) }
 

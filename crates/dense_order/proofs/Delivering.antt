@@ -5,7 +5,7 @@ use mathlib.Core.Path.{◌≡◌, refl, sym, ◌∙◌, ap}
 use mathlib.Core.Bool.{not}
 use mathlib.Core.List.Memᴰ
 use mathlib.Core.List.{List, [], ◌∷◌, map, Memᴰ}
-use mathlib.Core.Option.{Option, some, none}
+use Rattle.std.specs.Prelude.{Option, Some, None}
 use native.Mathlib.Omega.{arith}
 use lib.Dec.{ltb, eqb}
 use borrow.Author.Tests.{ltb-true, not-false, eq-eqb}
@@ -55,19 +55,19 @@ unfolding mark_of place_in or_none
 mark_place o p m = go (lowest (eqb p) o) refl
   where
     go : (r : Option ℕ) → lowest (eqb p) o ≡ r → mark_of o p ≡ suc (place_in o p)
-    go none e = absurd (clash (let z = lowest_none (eqb p) o e p m in let y = eq-eqb p p refl in cc))
-    go (some i) e = rw (e, mark_of, place_in, or_none)
+    go None e = absurd (clash (let z = lowest_none (eqb p) o e p m in let y = eq-eqb p p refl in cc))
+    go (Some i) e = rw (e, mark_of, place_in, or_none)
 
 -- AN ARRANGED FOREST ------------------------------------------------------------------------------
 
 -- no record is bad, no root and no child is past the end, every id is released
 record Checked (s rs : List ℕ) : Type 0 where
-  sound : bad_record s ≡ none
-  near : far_root (alone (nodes_of s) rs) ≡ none
-  inside : far_child (alone (nodes_of s) []) ≡ none
-  ended : unreleased (nodes_of s) ≡ none
+  sound : bad_record s ≡ None
+  near : far_root (alone (nodes_of s) rs) ≡ None
+  inside : far_child (alone (nodes_of s) []) ≡ None
+  ended : unreleased (nodes_of s) ≡ None
 
-checked : (s rs : List ℕ) → first (forest_checks s rs) ≡ none → Checked s rs
+checked : (s rs : List ℕ) → first (forest_checks s rs) ≡ None → Checked s rs
 unfolding forest_checks root_range disorders child_range
 checked s rs e =
     let (a, e1) = first_none _ _ e in

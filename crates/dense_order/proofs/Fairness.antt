@@ -4,7 +4,7 @@ use Prim.Native.Nat.{ℕ, ◌/◌, ◌<◌, ◌≤◌}
 use mathlib.Core.Path.{◌≡◌}
 use mathlib.Core.List.{List, [], Memᴰ}
 use mathlib.Core.Logic.{◌⊎◌, inl, inr}
-use mathlib.Core.Option.{none}
+use Rattle.std.specs.Prelude.{None}
 use native.Mathlib.Omega.{arith}
 use lib.ListN.{length, get_or, length-take}
 use Rattle.record.specs.Node.{fields, size, node_at, nodes_of, bad, children}
@@ -34,13 +34,13 @@ narrow_at s p = go (get_d_in (nodes_of s) p no_node)
     go (inr e) = rw e (omega arith)
 
 -- a record that is not bad has no higher count
-pub count_fits : (s : List ℕ) → bad_record s ≡ none → (p : ℕ) → p < length s / size → (node_at s p).count ≤ fields
+pub count_fits : (s : List ℕ) → bad_record s ≡ None → (p : ℕ) → p < length s / size → (node_at s p).count ≤ fields
 unfolding bad_record at
 count_fits s e p h =
     let m : Memᴰ (get_or (nodes_of s) p no_node) (nodes_of s) = get_d_mem (nodes_of s) p no_node (omega (arith, length_nodes_of s)) in
     (good (node_at s p) (lowest_none bad (nodes_of s) (naming_none _ _ e) (node_at s p) (rw (← at_node_lem s p h) m))).count_few
 
-pub fair : {s : List ℕ} {n : ℕ} → n ≡ length s / size → n ≤ most → bad_record s ≡ none → far_child (alone (nodes_of s) []) ≡ none → Fair s n
+pub fair : {s : List ℕ} {n : ℕ} → n ≡ length s / size → n ≤ most → bad_record s ≡ None → far_child (alone (nodes_of s) []) ≡ None → Fair s n
 fair {s} {n} c l b f = record {
   counted = c;
   few = l;

@@ -4,7 +4,7 @@ use Prim.Native.Nat.{ℕ, zero, suc, ◌+◌, ◌-◌, ◌/◌, ◌<◌, ◌≤�
 use mathlib.Core.Path.{◌≡◌, refl}
 use mathlib.Core.Bool.{Bool, true, false, not, ◌&&◌, ◌||◌}
 use mathlib.Core.List.{List, [], ◌∷◌}
-use mathlib.Core.Option.{Option, some, none}
+use Rattle.std.specs.Prelude.{Option, Some, None}
 use native.Mathlib.Omega.{arith}
 use native.Mathlib.Numerals.{add-one}
 use lib.Dec.{leb, ltb, eqb}
@@ -64,8 +64,8 @@ module _ (i : ℕ) {n m : Node} (a : n ≡ m) where
 
 first_one : (o : Option Reply) → first (o ∷ []) ≡ o
 unfolding first
-first_one none = refl
-first_one (some r) = refl
+first_one None = refl
+first_one (Some r) = refl
 
 -- what Validate asks of two digests, by the test of the code, where the class does not fall
 digest_test : (j k : ℕ) (x : Bool) → (ltb k 2 && ltb k j) ≡ false → (eqb k 0 && (eqb j 0 && not x)) ≡ not (not (eqb k 0) || x)

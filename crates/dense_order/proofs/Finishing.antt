@@ -4,7 +4,7 @@ use Prim.Native.Nat.{ℕ, suc, ◌+◌, ◌*◌, ◌-◌, ◌<◌, ◌≤◌}
 use mathlib.Core.Path.{◌≡◌, refl, sym, ◌∙◌, ap}
 use mathlib.Core.Bool.{Bool, true, false, not}
 use mathlib.Core.List.{List, ◌++◌, Memᴰ}
-use mathlib.Core.Option.{Option, some, none}
+use Rattle.std.specs.Prelude.{Option, Some, None}
 use native.Mathlib.Omega.{arith}
 use native.Mathlib.Decide.{dec_lt}
 use lib.Dec.{eqb}
@@ -128,14 +128,14 @@ unfolding mark_of
 mark_has o p = go (lowest (eqb p) o) refl
   where
     go : (r : Option ℕ) → lowest (eqb p) o ≡ r → eqb (mark_of o p) 0 ≡ not (has p o)
-    go none e = rw (e, mark_of) (missing (has p o) refl)
+    go None e = rw (e, mark_of) (missing (has p o) refl)
       where
         missing : (b : Bool) → has p o ≡ b → true ≡ not (has p o)
         missing true h = absurd (clash (let z = lowest_none (eqb p) o e p (has_in p o h) in let y = eq-eqb p p refl in cc))
         missing false h = rw h
-    go (some i) e = rw (e, mark_of) (ne_eqb (suc i) 0 (λ z. omega arith) ∙ ap not (sym (in_has p o (there i e))))
+    go (Some i) e = rw (e, mark_of) (ne_eqb (suc i) 0 (λ z. omega arith) ∙ ap not (sym (in_has p o (there i e))))
       where
-        there : (i : ℕ) → lowest (eqb p) o ≡ some i → Memᴰ p o
+        there : (i : ℕ) → lowest (eqb p) o ≡ Some i → Memᴰ p o
         there i e = rw (eqb-true p _ (lowest_passes (eqb p) o i 0 e)) (get_d_mem o i 0 (lowest_lt (eqb p) o i e))
 
 pub orders : {s w w₁ : List ℕ} {n filled : ℕ} {r : Place} → Released s w n filled → length w₁ ≡ length w → Marked w w₁ n filled
@@ -156,7 +156,7 @@ orders {s} {w} {w₁} {n} {filled} {r} a l m e = record {
     lowest_is : lowest (λ p. eqb (get_or w₁ (n + p) 0) 0) (run 0 n) ≡ lowest (λ p. not (has p (order (nodes_of s)))) (run 0 (length (nodes_of s)))
     lowest_is = rw counted (lowest_agree _ _ 0 n (λ x u v. ap (λ k. eqb k 0) (marks_now x (omega arith)) ∙ mark_has (order (nodes_of s)) x))
 
-    whole_now : lowest (λ p. not (has p (order (nodes_of s)))) (run 0 (length (nodes_of s))) ≡ none → span w₁ 0 n ≡ order (nodes_of s)
+    whole_now : lowest (λ p. not (has p (order (nodes_of s)))) (run 0 (length (nodes_of s))) ≡ None → span w₁ 0 n ≡ order (nodes_of s)
     whole_now u =
         let z = length_order (nodes_of s) (unreleased_all (nodes_of s) u) in
         let y : length (span w 0 filled) ≡ length (order (nodes_of s)) = ap length a.whole in

@@ -3,7 +3,7 @@
 use Prim.Native.Nat.{ℕ, suc, ◌+◌, ◌*◌, ◌/◌, ◌<◌, ◌≤◌}
 use mathlib.Core.Path.{◌≡◌, refl, ap, sym, ◌∙◌}
 use mathlib.Core.List.{List}
-use mathlib.Core.Option.{none}
+use Rattle.std.specs.Prelude.{None}
 use native.Mathlib.Decide.{ℕ_discrete}
 use native.Mathlib.Omega.{arith}
 use borrow.Author.Tests.{eq-eqb, ne_eqb}
@@ -62,7 +62,7 @@ mark_run : (n p : ℕ) → p < n → mark_of (run 0 n) p ≡ suc p
 unfolding mark_of
 mark_run n p h = rw (mark_of, lowest_at (eqb p) 0 n p (λ x b. ne_eqb p x (omega arith)) (eq-eqb p (0 + p) (omega arith)) h)
 
-pub kept_answers : {s w v : List ℕ} {n : ℕ} → first (node_faults (nodes_of s)) ≡ none → n ≡ length s / size → 2 * n ≤ length v → Kept w v n n → Answers (disorders (nodes_of s)) s v n Passed
+pub kept_answers : {s w v : List ℕ} {n : ℕ} → first (node_faults (nodes_of s)) ≡ None → n ≡ length s / size → 2 * n ≤ length v → Kept w v n n → Answers (disorders (nodes_of s)) s v n Passed
 unfolding check_of ids
 kept_answers {s} {w} {v} {n} e c l k =
     let g = nodes_of s in

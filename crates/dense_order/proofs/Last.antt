@@ -4,7 +4,7 @@ use Prim.Native.Nat.{ℕ, ◌+◌, ◌<◌, ◌≤◌}
 use mathlib.Core.Path.{◌≡◌}
 use mathlib.Core.Bool.{Bool, true, false, ◌&&◌}
 use mathlib.Core.List.{List, [], ◌∷◌, ◌++◌}
-use mathlib.Core.Option.{some}
+use Rattle.std.specs.Prelude.{Some}
 use native.Mathlib.Omega.{arith}
 use native.Mathlib.Numerals.{add-one}
 use native.Mathlib.Decide.{dec_lt}
@@ -21,7 +21,7 @@ use Rattle.dense_order.specs.declared.Kid.TheVariants.{Child, Childless}
 
 -- what is found in a list and one element more
 module _ (t : ℕ → Bool) where
-  pub last_here : (l : List ℕ) (x : ℕ) → t x ≡ true → last_of t (l ++ x ∷ []) ≡ some x
+  pub last_here : (l : List ℕ) (x : ℕ) → t x ≡ true → last_of t (l ++ x ∷ []) ≡ Some x
   unfolding last_of later
   last_here [] x e = rw e
   last_here (y ∷ l) x e = rw (last_here l x e)

@@ -4,7 +4,7 @@ use Prim.Native.Nat.{ℕ, suc, ◌+◌, ◌/◌, ◌<◌, ◌≤◌}
 use mathlib.Core.Path.{◌≡◌, refl}
 use mathlib.Core.Bool.{true, false}
 use mathlib.Core.List.{List}
-use mathlib.Core.Option.{Option, some, none}
+use Rattle.std.specs.Prelude.{Option, Some, None}
 use native.Mathlib.Omega.{arith}
 use lib.ListN.{length}
 use Rattle.record.specs.Node.{size, node_at, nodes_of, bad}
@@ -15,22 +15,22 @@ use Rattle.dense_order.proofs.Rest.{nodes_from, rest_all, rest_step, rest_end}
 
 -- a place that was found counting from i
 unfoldable pub further : ℕ → Option ℕ → Option ℕ
-further i none = none
-further i (some j) = some (i + j)
+further i None = None
+further i (Some j) = Some (i + j)
 
 pub further_zero : (o : Option ℕ) → o ≡ further 0 o
 unfolding further
-further_zero none = refl
-further_zero (some j) = let e : 0 + j ≡ j = omega arith in rw e
+further_zero None = refl
+further_zero (Some j) = let e : 0 + j ≡ j = omega arith in rw e
 
-pub further_here : (i : ℕ) (o : Option ℕ) → further i (here_or true o) ≡ some i
+pub further_here : (i : ℕ) (o : Option ℕ) → further i (here_or true o) ≡ Some i
 unfolding further here_or
 further_here i o = let e : i + 0 ≡ i = omega arith in rw e
 
 pub further_there : (i : ℕ) (o : Option ℕ) → further i (here_or false o) ≡ further (i + 1) o
 unfolding further here_or
-further_there i none = refl
-further_there i (some j) = let e : i + suc j ≡ i + 1 + j = omega arith in rw e
+further_there i None = refl
+further_there i (Some j) = let e : i + suc j ≡ i + 1 + j = omega arith in rw e
 
 -- the lowest bad record is none of those before i
 abbrev pub Seeking : List ℕ → ℕ → Type 0

@@ -5,7 +5,7 @@ use mathlib.Core.Path.{◌≡◌, refl, sym, ◌∙◌, ap}
 use mathlib.Core.Bool.{Bool, true, false}
 use mathlib.Core.List.{List, [], ◌∷◌, ◌++◌, Memᴰ}
 use mathlib.Core.Logic.{◌≢◌}
-use mathlib.Core.Option.{some, none}
+use Rattle.std.specs.Prelude.{Some, None}
 use native.Mathlib.Decide.{ℕ_discrete}
 use native.Mathlib.Omega.{arith}
 use native.Mathlib.Numerals.{add-one}
@@ -30,7 +30,7 @@ module _ (t : ℕ → Bool) where
   lowest_past [] x e = rw e
   lowest_past (y ∷ l) x e = rw (lowest_past l x e)
 
-  lowest_end : (l : List ℕ) (x : ℕ) → ((y : ℕ) → Memᴰ y l → t y ≡ false) → t x ≡ true → lowest t (l ++ x ∷ []) ≡ some (length l)
+  lowest_end : (l : List ℕ) (x : ℕ) → ((y : ℕ) → Memᴰ y l → t y ≡ false) → t x ≡ true → lowest t (l ++ x ∷ []) ≡ Some (length l)
   unfolding lowest here_or
   lowest_end [] x h e = rw e
   lowest_end (y ∷ l) x h e = rw (h y (mathlib.Core.List.Memᴰ.head refl), lowest_end l x (λ z m. h z (mathlib.Core.List.Memᴰ.tail m)) e)
@@ -141,8 +141,8 @@ module _ {t : ℕ → Bool} {n : ℕ} where
     fails = λ x b. elim (ℕ_discrete x k) [ yes q ↦ rw q e | no q ↦ r.fails x (omega arith) ];
   }
 
-  pub failing_found : {k : ℕ} → Failing t n k → k < n → t k ≡ true → lowest t (run 0 n) ≡ some k
+  pub failing_found : {k : ℕ} → Failing t n k → k < n → t k ≡ true → lowest t (run 0 n) ≡ Some k
   failing_found {k} r h e = let z : 0 + k ≡ k = omega arith in lowest_at t 0 n k (λ x b. r.fails x (omega arith)) (rw z e) h
 
-  pub failing_end : {k : ℕ} → Failing t n k → n ≤ k → lowest t (run 0 n) ≡ none
+  pub failing_end : {k : ℕ} → Failing t n k → n ≤ k → lowest t (run 0 n) ≡ None
   failing_end {k} r h = none_lowest t (run 0 n) (λ x m. let (a, b) = run_in 0 n x m in r.fails x (omega arith))

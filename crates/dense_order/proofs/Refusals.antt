@@ -3,7 +3,7 @@
 use Prim.Native.Nat.{ℕ, ◌/◌, ◌%◌, ◌<◌, ◌≤◌}
 use mathlib.Core.Path.{◌≡◌, refl, sym, ◌∙◌, ap}
 use mathlib.Core.List.{List, [], ◌∷◌}
-use mathlib.Core.Option.{Option, some, none}
+use Rattle.std.specs.Prelude.{Option, Some, None}
 use borrow.Author.Tests.{lt-ltb, le-ltb, eq-eqb, ne_eqb}
 use lib.ListN.{length}
 use Rattle.record.specs.Node.{size, nodes_of, bad}
@@ -23,10 +23,10 @@ use Rattle.dense_order.proofs.Options.{refused_some, passed_none}
 -- WHAT IS SAID OF THE RECORDS ---------------------------------------------------------------------
 
 -- if the rest says r first, r may stand in its place
-stands_for : (o : Option Reply) (os : List (Option Reply)) (r : Reply) → first os ≡ some r → first (o ∷ some r ∷ []) ≡ first (o ∷ os)
+stands_for : (o : Option Reply) (os : List (Option Reply)) (r : Reply) → first os ≡ Some r → first (o ∷ Some r ∷ []) ≡ first (o ∷ os)
 unfolding first
-stands_for none os r e = sym e
-stands_for (some q) os r e = refl
+stands_for None os r e = sym e
+stands_for (Some q) os r e = refl
 
 module _ (b : List ℕ) where
   -- the lowest bad record goes before all else
@@ -38,11 +38,11 @@ module _ (b : List ℕ) where
   unfolding bad_record naming first
   no_bad os e = rw (nothing_none (lowest bad (nodes_of b)) _ refl e)
 
-  pub found_refused : (r : Reply) → place_of (lowest bad (nodes_of b)) ≡ Nothing → Refused r ≡ check_of (first (bad_record b ∷ some r ∷ []))
+  pub found_refused : (r : Reply) → place_of (lowest bad (nodes_of b)) ≡ Nothing → Refused r ≡ check_of (first (bad_record b ∷ Some r ∷ []))
   unfolding first check_of
-  found_refused r e = rw (no_bad (some r ∷ []) e)
+  found_refused r e = rw (no_bad (Some r ∷ []) e)
 
-  pub order_refused : (r : Reply) (k : Check) → Refused r ≡ check_of (first (node_faults (nodes_of b))) → k ≡ check_of (first (bad_record b ∷ some r ∷ []))
+  pub order_refused : (r : Reply) (k : Check) → Refused r ≡ check_of (first (node_faults (nodes_of b))) → k ≡ check_of (first (bad_record b ∷ Some r ∷ []))
       → k ≡ check_of (first (bad_record b ∷ node_faults (nodes_of b)))
   order_refused r k e f = f ∙ ap check_of (stands_for (bad_record b) (node_faults (nodes_of b)) r (refused_some _ r (sym e)))
 

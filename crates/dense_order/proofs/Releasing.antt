@@ -6,7 +6,7 @@ use mathlib.Core.Bool.{Bool, true, false, not, ◌&&◌, and-false}
 use mathlib.Core.List.Memᴰ
 use mathlib.Core.List.{List, [], ◌∷◌, ◌++◌, Memᴰ, append-nil, append_assoc}
 use mathlib.Core.Logic.{◌⊎◌, inl, inr}
-use mathlib.Core.Option.{some, none}
+use Rattle.std.specs.Prelude.{Some, None}
 use native.Mathlib.Omega.{arith}
 use lib.ListN.{length, take}
 use lib.Seq.{take_all}
@@ -53,15 +53,15 @@ module _ {s w : List ℕ} {n begun filled : ℕ} (r : Releasing s w n begun fill
   lowest_ready = let z = forest_counted s n r.standing.stands.fair in rw z (lowest_agree _ _ 0 n (λ x a b. members_ready x (omega arith)))
 
   -- nothing is ready: the order is complete
-  none_released : (m : ℕ) → lowest (ready (nodes_of s) (span w 0 filled)) (ids (nodes_of s)) ≡ none → released (nodes_of s) m (span w 0 filled) ≡ []
+  none_released : (m : ℕ) → lowest (ready (nodes_of s) (span w 0 filled)) (ids (nodes_of s)) ≡ None → released (nodes_of s) m (span w 0 filled) ≡ []
   unfolding released
   none_released zero e = refl
   none_released (suc m) e = rw (e, released)
 
-  ends : lowest (ready (nodes_of s) (span w 0 filled)) (ids (nodes_of s)) ≡ none → Released s w n filled
+  ends : lowest (ready (nodes_of s) (span w 0 filled)) (ids (nodes_of s)) ≡ None → Released s w n filled
   ends e = record { standing = r.standing; whole = sym (r.whole ∙ rw (none_released (n - (filled - begun)) e) (append-nil (span w 0 filled))) }
 
-  pub releasing_none : lowest (member w (ready_at n) n) (run 0 n) ≡ none → Released s w n filled
+  pub releasing_none : lowest (member w (ready_at n) n) (run 0 n) ≡ None → Released s w n filled
   releasing_none e = ends (sym lowest_ready ∙ e)
 
   -- all ids are in the order: nothing is ready
@@ -85,7 +85,7 @@ module _ {s w : List ℕ} {n begun filled : ℕ} (r : Releasing s w n begun fill
       not_ready : (p : ℕ) → p < n → (is_internal (at (nodes_of s) p) && (not (has p (span w 0 filled)) && all (λ c. has c (span w 0 filled)) (children (at (nodes_of s) p)))) ≡ false
       not_ready p k = rw (there p k _ refl) (and-false (is_internal (at (nodes_of s) p)))
 
-  module _ {p : ℕ} (found : lowest (member w (ready_at n) n) (run 0 n) ≡ some p) where
+  module _ {p : ℕ} (found : lowest (member w (ready_at n) n) (run 0 n) ≡ Some p) where
     pub found_below : p < n
     found_below = (lowest_ids _ n p found).1
 
@@ -96,7 +96,7 @@ module _ {s w : List ℕ} {n begun filled : ℕ} (r : Releasing s w n begun fill
     unfolding released
     releasing_step {w'} h a =
         let e : n - (filled - begun) ≡ suc (n - (filled + 1 - begun)) = (let z = r.since in omega arith) in
-        let f : lowest (ready (nodes_of s) (span w 0 filled)) (ids (nodes_of s)) ≡ some p = sym lowest_ready ∙ found in
+        let f : lowest (ready (nodes_of s) (span w 0 filled)) (ids (nodes_of s)) ≡ Some p = sym lowest_ready ∙ found in
         record {
           since = let z = r.since in omega arith;
           standing = a.standing;

@@ -4,7 +4,7 @@ use Prim.Native.Nat.{ℕ, ◌+◌, ◌-◌, ◌/◌, ◌<◌, ◌≤◌}
 use mathlib.Core.Path.{◌≡◌, refl, ◌∙◌}
 use mathlib.Core.Bool.{true, false}
 use mathlib.Core.List.{List, ◌∷◌}
-use mathlib.Core.Option.{some}
+use Rattle.std.specs.Prelude.{Some}
 use native.Mathlib.Omega.{arith}
 use native.Mathlib.Decide.{dec_lt}
 use lib.ListN.{length, get_or}
@@ -28,7 +28,7 @@ Unlike s w count i = repeat (nodes_of s) (span w 0 count) ≡ repeat (nodes_of s
 
 -- the first two either have one digest, or what is sought is further on
 module _ (g : List Node) (p q : ℕ) (o : List ℕ) where
-  pub alike : same (at g p).digest (at g q).digest ≡ true → repeat g (p ∷ q ∷ o) ≡ some q
+  pub alike : same (at g p).digest (at g q).digest ≡ true → repeat g (p ∷ q ∷ o) ≡ Some q
   unfolding repeat
   alike e = rw (e, repeat)
 

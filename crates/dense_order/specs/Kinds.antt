@@ -1,7 +1,6 @@
 -- Listing the ids of one kind, and what the order holds before any internal.
 -- Assumes nothing: these are definitions.
-use Rattle.std.specs.Prelude.{ℕ, suc, ◌+◌, ◌*◌, ◌/◌, ◌<◌, ◌≤◌, ◌≡◌, List, eqb, length, get_or}
-use Rattle.std.proofs.Math.Option.{none}
+use Rattle.std.specs.Prelude.{ℕ, suc, ◌+◌, ◌*◌, ◌/◌, ◌<◌, ◌≤◌, ◌≡◌, List, eqb, length, get_or, None}
 use Rattle.record.specs.Lists.{run}
 use Rattle.record.specs.Node.{size, node_at, nodes_of}
 use Rattle.forest.specs.Lent.{work_words, most}
@@ -50,5 +49,5 @@ pub record Kept (w w' : List ℕ) (n k : ℕ) : Type 0 where
 -- the answer names the lowest id that is never released; if there is none, the order is whole and each id's place is marked
 pub record Ordered (s w : List ℕ) (n : ℕ) (r : Place) : Type 0 where
   pub answer : r ≡ place_of (unreleased (nodes_of s))
-  pub whole : unreleased (nodes_of s) ≡ none → span w 0 n ≡ order (nodes_of s)
+  pub whole : unreleased (nodes_of s) ≡ None → span w 0 n ≡ order (nodes_of s)
   pub marks : (p : ℕ) → p < n → get_or w (n + p) 0 ≡ mark_of (order (nodes_of s)) p

@@ -1,8 +1,7 @@
 -- Places in the work room: words 0 .. n - 1 hold the order of n ids, word n + p the mark of id p, 1 more than its place in the order or 0.
 -- Assumes nothing: these are definitions.
-use Rattle.std.specs.Prelude.{ℕ, suc, ◌+◌, ◌-◌, ◌*◌, ◌<◌, ◌≤◌, ◌≡◌, eqb, length, get_or}
+use Rattle.std.specs.Prelude.{ℕ, suc, ◌+◌, ◌-◌, ◌*◌, ◌<◌, ◌≤◌, ◌≡◌, eqb, length, get_or, Some, None}
 use mathlib.Core.List.{List, Memᴰ}
-use Rattle.std.proofs.Math.Option.{some, none}
 use Rattle.record.specs.Node.{fields, size, node_at, children}
 use Rattle.forest.specs.Lists.{lowest}
 use Rattle.forest.specs.Lent.{most}
@@ -11,7 +10,7 @@ use Rattle.room.specs.Sections.{span, Out}
 
 -- 1 more than the place of p in the list, or 0
 unfoldable pub mark_of : List ℕ → ℕ → ℕ
-mark_of o p = elim (lowest (eqb p) o) [ none ↦ 0 | some i ↦ suc i ]
+mark_of o p = elim (lowest (eqb p) o) [ None ↦ 0 | Some i ↦ suc i ]
 
 -- the new id that the mark of c gives
 unfoldable pub new_id : List ℕ → ℕ → ℕ → ℕ

@@ -1,7 +1,6 @@
 -- Canonicalize's steps: what each part of its checks looks at.
 -- Assumes nothing: these are definitions.
-use Rattle.std.specs.Prelude.{ℕ, ◌+◌, ◌*◌, ◌/◌, ◌%◌, ◌<◌, ◌≤◌, ◌≡◌, not, ◌||◌, List, [], ◌∷◌, ltb, eqb, length, get_or}
-use Rattle.std.proofs.Math.Option.{Option, none}
+use Rattle.std.specs.Prelude.{ℕ, ◌+◌, ◌*◌, ◌/◌, ◌%◌, ◌<◌, ◌≤◌, ◌≡◌, not, ◌||◌, List, [], ◌∷◌, ltb, eqb, length, get_or, Option, None}
 use Rattle.record.specs.Lists.{flat}
 use Rattle.record.specs.Node.{size, nodes_of, node_bytes}
 use Rattle.forest.specs.Canonicalize.{alone, root_range, disorders, canonical}
@@ -44,13 +43,13 @@ pub record Arranged (s w : List ℕ) (n : ℕ) : Type 0 where
 -- the answer to the checks os; if none refuses, the forest is arranged in the room
 pub record Answers (os : List (Option Reply)) (s w : List ℕ) (n : ℕ) (r : Check) : Type 0 where
   pub answer : r ≡ check_of (first os)
-  pub arranged : first os ≡ none → Arranged s w n
+  pub arranged : first os ≡ None → Arranged s w n
 
 -- an arranged forest that can be written: no refusal of records, roots or order is left
 pub record Deliverable (s rs w : List ℕ) (n : ℕ) : Type 0 where
   pub whole : size * n ≡ length s
   pub fitting : Fitting s w n
-  pub passed : first (forest_checks s rs) ≡ none
+  pub passed : first (forest_checks s rs) ≡ None
   pub arranged : Arranged s w n
 
 -- the three outputs are the canonical forest's nodes, its roots, and the id list

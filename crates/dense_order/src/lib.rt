@@ -1,8 +1,7 @@
 // Validate and Canonicalize: whether a forest's nodes stand in dense order, and putting them into it.
 #![tactic(auto)]
 
-ghost use Rattle.std.specs.Prelude.{◌≡◌, not, ◌||◌, [], ◌∷◌, ◌+◌, ◌-◌, ◌*◌, ◌≤◌, leb, eqb, length};
-ghost use Rattle.std.proofs.Math.Option.{none, some};
+ghost use Rattle.std.specs.Prelude.{◌≡◌, not, ◌||◌, [], ◌∷◌, ◌+◌, ◌-◌, ◌*◌, ◌≤◌, leb, eqb, length, None, Some};
 ghost use Rattle.record.specs.Order.{before};
 ghost use Rattle.record.specs.Node.{size, node_at, nodes_of, bad, children};
 ghost use Rattle.forest.specs.Lists.{lowest, last_of};
@@ -159,7 +158,7 @@ fn validate_dense_node_order(nodes: &[u8]) -> Check
 
 // Refuses the lowest bad record, which goes before whatever else was found, or else with `reply`.
 fn bad_first(nodes: &[u8], reply: Reply) -> Check
-    ensures { result ≡ check_of (first (bad_record nodes.now ∷ some reply ∷ [])) }
+    ensures { result ≡ check_of (first (bad_record nodes.now ∷ Some reply ∷ [])) }
 {
     if let Place::At(lowest) = first_bad(nodes) {
         return Check::Refused(Reply::BadRecord(lowest as u64));
@@ -247,7 +246,7 @@ fn sizes(
 // Arranges a forest in a room of zeros, unless two externals have one digest, a child is past the end, or an internal is never released.
 fn rearranged(nodes: &[u8], work: &mut [u32], n: usize) -> Check
     requires blank { Blank nodes.now work.old n }
-    requires nodes_value { bad_record nodes.now ≡ none }
+    requires nodes_value { bad_record nodes.now ≡ None }
     ensures { Answers (disorders (nodes_of nodes.now)) nodes.now work.new n result }
 {
     let externals = order::list_externals(nodes, work, n);
@@ -266,7 +265,7 @@ fn rearranged(nodes: &[u8], work: &mut [u32], n: usize) -> Check
 // Arranges a forest in a room of zeros as `rearranged` does: one in dense order stays as it is.
 fn arranged(nodes: &[u8], work: &mut [u32], n: usize) -> Check
     requires blank { Blank nodes.now work.old n }
-    requires nodes_value { bad_record nodes.now ≡ none }
+    requires nodes_value { bad_record nodes.now ≡ None }
     ensures { Answers (disorders (nodes_of nodes.now)) nodes.now work.new n result }
 {
     let order = validate_dense_node_order(nodes);

@@ -1,7 +1,6 @@
 -- Document 01, Canonicalize: one forest in its canonical order.
 -- Assumes nothing: these are definitions.
-use Rattle.std.specs.Prelude.{ℕ, ◌*◌, ◌/◌, ◌%◌, not, ◌||◌, List, [], ◌∷◌, ◌++◌, map, ltb, eqb, length}
-use Rattle.std.proofs.Math.Option.{Option}
+use Rattle.std.specs.Prelude.{ℕ, ◌*◌, ◌/◌, ◌%◌, not, ◌||◌, List, [], ◌∷◌, ◌++◌, map, ltb, eqb, length, Option}
 use Rattle.record.specs.Node.{size, nodes_of}
 use Rattle.record.specs.declared.Node.{Node}
 use Rattle.forest.specs.Lent.{Input, Room, Outcome, Result, work_words, most, when, naming, answered}

@@ -1,7 +1,6 @@
 -- Document 01: the forests joined into one graph, its roots, its ranges, and step 1, the replacement.
 -- Assumes nothing: these are definitions.
-use Rattle.std.specs.Prelude.{ℕ, ◌+◌, true, false, not, ◌&&◌, List, [], ◌∷◌, ◌++◌, map, leb, ltb, take, drop, get_or, replicate}
-use Rattle.std.proofs.Math.Option.{Option, some, none}
+use Rattle.std.specs.Prelude.{ℕ, ◌+◌, true, false, not, ◌&&◌, List, [], ◌∷◌, ◌++◌, map, leb, ltb, take, drop, get_or, replicate, Option, Some, None}
 use Rattle.record.specs.Lists.{same, flat}
 use Rattle.record.specs.Node.{fields, words, is_external, children, renumber}
 use Rattle.record.specs.declared.Node.{Node}
@@ -54,11 +53,11 @@ replacement g d = highest (λ n. not (is_external n) && same d n.digest) g
 
 -- what the node at p is replaced by, if it is an external
 unfoldable pub replaced_by : List Node → ℕ → Option ℕ
-replaced_by g p = elim (is_external (at g p)) [ true ↦ replacement g (at g p).digest | false ↦ none ]
+replaced_by g p = elim (is_external (at g p)) [ true ↦ replacement g (at g p).digest | false ↦ None ]
 
 unfoldable pub listed : Option ℕ → List ℕ
-listed none = []
-listed (some q) = q ∷ []
+listed None = []
+listed (Some q) = q ∷ []
 
 -- where one comes from p: to its children, and from an external to its replacement
 unfoldable pub next : List Node → ℕ → List ℕ

@@ -1,7 +1,6 @@
 -- What is lent to a call, what it leaves, and how its refusals are ordered.
 -- Assumes nothing: these are definitions.
-use Rattle.std.specs.Prelude.{ℕ, Bool, true, false, List, [], ◌∷◌, length, replicate}
-use Rattle.std.proofs.Math.Option.{Option, some, none}
+use Rattle.std.specs.Prelude.{ℕ, Bool, true, false, List, [], ◌∷◌, length, replicate, Option, Some, None}
 use Rattle.record.specs.Lists.{over, flat}
 use Rattle.record.specs.Node.{node_bytes}
 use Rattle.record.specs.declared.Node.{Node}
@@ -74,20 +73,20 @@ accept m r =
 
 -- a refusal if the test passes
 unfoldable pub when : Bool → Reply → Option Reply
-when true r = some r
-when false r = none
+when true r = Some r
+when false r = None
 
 -- a refusal that names what was found
 unfoldable pub naming : {A : Type 0} → (A → Reply) → Option A → Option Reply
-naming f none = none
-naming f (some a) = some (f a)
+naming f None = None
+naming f (Some a) = Some (f a)
 
 -- the first refusal of the list
 unfoldable pub first : List (Option Reply) → Option Reply
-first [] = none
-first (none ∷ os) = first os
-first (some r ∷ os) = some r
+first [] = None
+first (None ∷ os) = first os
+first (Some r ∷ os) = Some r
 
 -- the first refusal decides; if there is none, the result is delivered
 unfoldable pub answered : Room → List (Option Reply) → Result → Outcome
-answered m os r = elim (first os) [ some e ↦ refuse m e | none ↦ accept m r ]
+answered m os r = elim (first os) [ Some e ↦ refuse m e | None ↦ accept m r ]

@@ -1,7 +1,6 @@
 -- Document 01, Merge: many forests into one.
 -- Assumes nothing: these are definitions.
-use Rattle.std.specs.Prelude.{ℕ, ◌*◌, ◌/◌, ◌%◌, not, ◌&&◌, ◌||◌, List, [], ◌∷◌, ◌++◌, map, leb, ltb, eqb, length}
-use Rattle.std.proofs.Math.Option.{Option, some, none}
+use Rattle.std.specs.Prelude.{ℕ, ◌*◌, ◌/◌, ◌%◌, not, ◌&&◌, ◌||◌, List, [], ◌∷◌, ◌++◌, map, leb, ltb, eqb, length, Option, Some, None}
 use Rattle.record.specs.Node.{size, row_size, nodes_of, rows_of}
 use Rattle.record.specs.declared.Node.{Node}
 use Rattle.forest.specs.Lists.{firsts, sum}
@@ -56,9 +55,9 @@ merge_checks limit i m =
 
 -- 7 or 8, as the walk meets them
 unfoldable pub stopped : Walked → Option Reply
-stopped (going s) = none
-stopped (cycle p) = some (Cycle p)
-stopped (deep p) = some (TooDeep p)
+stopped (going s) = None
+stopped (cycle p) = Some (Cycle p)
+stopped (deep p) = Some (TooDeep p)
 
 -- where the walk has come to; nothing is merged where it stopped
 unfoldable pub state_of : Walked → State
@@ -76,7 +75,7 @@ merge_refusals limit i m w r = merge_checks limit i m ++ stopped w ∷ short m r
 
 -- the new id of position p once the merged nodes are in the order o
 unfoldable pub carried : State → List ℕ → ℕ → ℕ
-carried s o p = elim (id_in s.done p) [ none ↦ no_id | some i ↦ place_in o i ]
+carried s o p = elim (id_in s.done p) [ None ↦ no_id | Some i ↦ place_in o i ]
 
 -- steps 4 and 5: roots renumbered, first mention kept, repeats dropped; every id carried through the canonical order
 unfoldable pub merged : List Node → List ℕ → State → Result

@@ -1,7 +1,6 @@
 -- Document 01, Canonicalize: the order of a forest's nodes, and the nodes in that order.
 -- Assumes nothing: these are definitions.
-use Rattle.std.specs.Prelude.{ℕ, zero, suc, Bool, true, false, not, ◌&&◌, List, [], ◌∷◌, ◌++◌, map, eqb, length}
-use Rattle.std.proofs.Math.Option.{Option, some, none}
+use Rattle.std.specs.Prelude.{ℕ, zero, suc, Bool, true, false, not, ◌&&◌, List, [], ◌∷◌, ◌++◌, map, eqb, length, Option, Some, None}
 use Rattle.record.specs.Lists.{same, run, all}
 use Rattle.record.specs.Order.{before}
 use Rattle.record.specs.Node.{is_external, is_block, is_internal, children, renumber}
@@ -33,7 +32,7 @@ ready g o p = is_internal (at g p) && (not (has p o) && all (λ c. has c o) (chi
 -- what is released after the order o, at most n: always the lowest internal that is ready
 unfoldable pub released : List Node → ℕ → List ℕ → List ℕ
 released g zero o = []
-released g (suc n) o = elim (lowest (ready g o) (ids g)) [ none ↦ [] | some p ↦ p ∷ released g n (o ++ p ∷ []) ]
+released g (suc n) o = elim (lowest (ready g o) (ids g)) [ None ↦ [] | Some p ↦ p ∷ released g n (o ++ p ∷ []) ]
 
 -- what stands in the order before any internal
 unfoldable pub begun : List Node → List ℕ
@@ -49,9 +48,9 @@ unreleased g = lowest (λ p. not (has p (order g))) (ids g)
 
 -- the second of the first two neighbours of one digest
 unfoldable pub repeat : List Node → List ℕ → Option ℕ
-repeat g [] = none
-repeat g (p ∷ []) = none
-repeat g (p ∷ q ∷ o) = elim (same (at g p).digest (at g q).digest) [ true ↦ some q | false ↦ repeat g (q ∷ o) ]
+repeat g [] = None
+repeat g (p ∷ []) = None
+repeat g (p ∷ q ∷ o) = elim (same (at g p).digest (at g q).digest) [ true ↦ Some q | false ↦ repeat g (q ∷ o) ]
 
 -- the new id of a node: its place in the order
 unfoldable pub place_in : List ℕ → ℕ → ℕ

@@ -1,7 +1,6 @@
 -- Document 01, Validate: whether node records stand in dense order.
 -- Assumes nothing: these are definitions.
-use Rattle.std.specs.Prelude.{ℕ, suc, ◌/◌, ◌%◌, not, ◌&&◌, List, [], ◌∷◌, leb, ltb, eqb, length}
-use Rattle.std.proofs.Math.Option.{Option, some, none}
+use Rattle.std.specs.Prelude.{ℕ, suc, ◌/◌, ◌%◌, not, ◌&&◌, List, [], ◌∷◌, leb, ltb, eqb, length, Option, Some, None}
 use Rattle.record.specs.Order.{before}
 use Rattle.record.specs.Node.{size, nodes_of, bad, class, rank, is_external, children}
 use Rattle.record.specs.declared.Node.{Node}
@@ -45,8 +44,8 @@ validate_refusals b =
     ∷ node_faults (nodes_of b)
 
 unfoldable pub or_accepted : ℕ → Option Reply → Reply
-or_accepted n none = Accepted n 0
-or_accepted n (some r) = r
+or_accepted n None = Accepted n 0
+or_accepted n (Some r) = r
 
 -- Validate: it is lent node records alone
 unfoldable pub validate : List ℕ → Reply

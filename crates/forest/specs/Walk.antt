@@ -1,7 +1,6 @@
 -- Document 01, Merge, steps 2 and 3: the walk, which merges each node as it finishes.
 -- Assumes nothing: these are definitions.
-use Rattle.std.specs.Prelude.{ℕ, zero, suc, Bool, true, false, List, [], ◌∷◌, ◌++◌, eqb, length}
-use Rattle.std.proofs.Math.Option.{Option, some, none}
+use Rattle.std.specs.Prelude.{ℕ, zero, suc, Bool, true, false, List, [], ◌∷◌, ◌++◌, eqb, length, Option, Some, None}
 use Rattle.record.specs.Node.{renumber, same_node}
 use Rattle.record.specs.declared.Node.{Node}
 use Rattle.forest.specs.Lists.{has, lowest}
@@ -23,12 +22,12 @@ pub data Walked : Type 0 where
 
 -- the new id of p, if it is finished
 unfoldable pub id_in : List (ℕ × ℕ) → ℕ → Option ℕ
-id_in [] p = none
-id_in (e ∷ es) p = elim (eqb p e.0) [ true ↦ some e.1 | false ↦ id_in es p ]
+id_in [] p = None
+id_in (e ∷ es) p = elim (eqb p e.0) [ true ↦ Some e.1 | false ↦ id_in es p ]
 
 unfoldable pub or_none : Option ℕ → ℕ
-or_none none = no_id
-or_none (some i) = i
+or_none None = no_id
+or_none (Some i) = i
 
 -- the new id of p, or the mark for none
 unfoldable pub id_of : State → ℕ → ℕ
@@ -38,9 +37,9 @@ pub data Mark : Type 0 where
   finished opened unseen : Mark
 
 unfoldable pub marked : Option ℕ → Bool → Mark
-marked (some i) b = finished
-marked none true = opened
-marked none false = unseen
+marked (Some i) b = finished
+marked None true = opened
+marked None false = unseen
 
 -- what p is, with the nodes of `path` open: finished if it has an id, else open if it is on the path
 unfoldable pub mark : List ℕ → State → ℕ → Mark
@@ -52,11 +51,11 @@ ended p i s = record { done = (p, i) ∷ s.done; merged = s.merged }
 
 -- p is finished as the merged node n: with the id of an equal earlier one, else appended
 unfoldable pub push : ℕ → Node → State → State
-push p n s = elim (lowest (same_node n) s.merged) [ some i ↦ ended p i s | none ↦ ended p (length s.merged) (record { done = s.done; merged = s.merged ++ n ∷ [] }) ]
+push p n s = elim (lowest (same_node n) s.merged) [ Some i ↦ ended p i s | None ↦ ended p (length s.merged) (record { done = s.done; merged = s.merged ++ n ∷ [] }) ]
 
 -- step 3: a replaced external takes its replacement's id, any other node is merged with its children renumbered
 unfoldable pub finish : List Node → ℕ → State → State
-finish g p s = elim (replaced_by g p) [ some q ↦ ended p (id_of s q) s | none ↦ push p (renumber (id_of s) (at g p)) s ]
+finish g p s = elim (replaced_by g p) [ Some q ↦ ended p (id_of s q) s | None ↦ push p (renumber (id_of s) (at g p)) s ]
 
 -- go on with f, unless the walk has stopped
 unfoldable pub onward : Walked → (State → Walked) → Walked

@@ -4,7 +4,7 @@ use Prim.Native.Nat.{ℕ, ◌*◌, ◌/◌, ◌≤◌}
 use mathlib.Core.Path.{◌≡◌, refl, sym, ◌∙◌, ap}
 use mathlib.Core.Bool.{true, false}
 use mathlib.Core.List.{List, ◌∷◌, ◌++◌}
-use mathlib.Core.Option.{Option, some, none}
+use Rattle.std.specs.Prelude.{Option, Some, None}
 use native.Mathlib.Omega.{arith}
 use lib.Dec.{ltb}
 use borrow.Author.Tests.{ltb-false}
@@ -64,15 +64,15 @@ later_clears limit i records starts =
 
 -- THE ANSWER OF WHAT IS MERGED --------------------------------------------------------------------
 
-joined_some : (o : Option Reply) (x : Result) (r : Reply) → joined_of o x ≡ Refused r → o ≡ some r
+joined_some : (o : Option Reply) (x : Result) (r : Reply) → joined_of o x ≡ Refused r → o ≡ Some r
 unfolding joined_of
-joined_some none x r e = absurd (clash cc)
-joined_some (some q) x r e = cc
+joined_some None x r e = absurd (clash cc)
+joined_some (Some q) x r e = cc
 
-joined_none : (o : Option Reply) (x : Result) (n k : ℕ) → joined_of o x ≡ Whole n k → (o ≡ none) × (length x.nodes ≡ n) × (length x.roots ≡ k)
+joined_none : (o : Option Reply) (x : Result) (n k : ℕ) → joined_of o x ≡ Whole n k → (o ≡ None) × (length x.nodes ≡ n) × (length x.roots ≡ k)
 unfolding joined_of
-joined_none none x n k e = (refl, cc, cc)
-joined_none (some q) x n k e = absurd (clash cc)
+joined_none None x n k e = (refl, cc, cc)
+joined_none (Some q) x n k e = absurd (clash cc)
 
 -- THE OUTCOME -------------------------------------------------------------------------------------
 
@@ -108,7 +108,7 @@ module _ (limit : ℕ) (t s rs a b c w : List ℕ) where
         by_steps ∙ (refused_is _ _ _ r (first_stops sizes later r f) ∙ rw (sizes_leave limit t (length s) (length rs) (length c) (length w) r f, worked))
 
     module _ (passed : q ≡ check.Passed) where
-      fits : first sizes ≡ none
+      fits : first sizes ≡ None
       fits = passed_none (first sizes) (sym said ∙ passed)
 
       pub sized : Sized limit lent w
@@ -123,7 +123,7 @@ module _ (limit : ℕ) (t s rs a b c w : List ℕ) where
             by_steps ∙ (answered_past _ sizes later _ fits ∙ (refused_is _ _ _ r f ∙ rw (later_clears limit lent (length a / size) (length b) r f, worked, zeros, long)))
 
         module _ (n k : ℕ) (e : u ≡ Whole n k) where
-          free : (first later ≡ none) × (length (result_of limit lent).nodes ≡ n) × (length (result_of limit lent).roots ≡ k)
+          free : (first later ≡ None) × (length (result_of limit lent).nodes ≡ n) × (length (result_of limit lent).roots ≡ k)
           free = joined_none (first later) (result_of limit lent) n k (sym told.answer ∙ e)
 
           settled : Settled s w₁ (length s / size) n k (graph lent) (roots_of lent) (state_of (walk_of limit lent))

@@ -5,7 +5,7 @@ use mathlib.Core.Path.{◌≡◌, refl, sym, ◌∙◌, ap}
 use mathlib.Core.Bool.{true}
 use mathlib.Core.List.{List, [], ◌∷◌, map, append-nil, Memᴰ}
 use mathlib.Core.Logic.{inl, ◌≢◌}
-use mathlib.Core.Option.{some, none}
+use Rattle.std.specs.Prelude.{Some, None}
 use native.Mathlib.Omega.{arith}
 use lib.Dec.{eqb}
 use borrow.Author.Tests.{eq-eqb, ne_eqb}
@@ -54,14 +54,14 @@ module _ {s w : List ℕ} {n h : ℕ} {g : List Node} (c : Charted s w n h g) (p
 
     -- the search for its replacement
     module _ (r : Place) (f : r ≡ place_of (replacement (nodes_of s) (node_at s p).digest)) where
-      pub replaced_by_lem : (q : ℕ) → r ≡ At q → replaced_by g p ≡ some q
+      pub replaced_by_lem : (q : ℕ) → r ≡ At q → replaced_by g p ≡ Some q
       replaced_by_lem q z = replaced_is ∙ (sym (c.same _) ∙ at_some _ r q f z)
 
       pub next_one : (q : ℕ) → r ≡ At q → next g p ≡ q ∷ []
       unfolding next listed
       next_one q z = rw (no_children, replaced_by_lem q z) refl
 
-      pub unreplaced : r ≡ Nothing → replaced_by g p ≡ none
+      pub unreplaced : r ≡ Nothing → replaced_by g p ≡ None
       unreplaced z = replaced_is ∙ (sym (c.same _) ∙ nothing_none _ r f z)
 
       pub next_none : r ≡ Nothing → next g p ≡ []
@@ -69,7 +69,7 @@ module _ {s w : List ℕ} {n h : ℕ} {g : List Node} (c : Charted s w n h g) (p
       next_none z = rw (no_children, unreplaced z) refl
 
   module _ (e : (node_at s p).kind ≢ 0) where
-    pub not_replaced : replaced_by g p ≡ none
+    pub not_replaced : replaced_by g p ≡ None
     unfolding replaced_by
     not_replaced = rw (kind_is ∙ ne_eqb _ _ e, replaced_by) refl
 
@@ -92,7 +92,7 @@ module _ {s w : List ℕ} {n h : ℕ} {g : List Node} (c : Charted s w n h g) (p
 
 module _ {s w₀ w : List ℕ} {n h d m i p : ℕ} {g : List Node} {path : List ℕ} {t : State} (a : Gone s w₀ w n h d m i g (p ∷ path) (next g p) t) (low : p < n) (all : length (next g p) ≤ i) where
   -- all that hangs below is finished, and p is not replaced
-  pub pushing : ¬ Memᴰ p path → replaced_by g p ≡ none → Pushing s w n m p g path a.state
+  pub pushing : ¬ Memᴰ p path → replaced_by g p ≡ None → Pushing s w n m p g path a.state
   pushing new e = record {
     mapped = a.stands.charted.mapped;
     fine = a.stands.fine;
@@ -115,7 +115,7 @@ module _ {s w₀ w : List ℕ} {n h d m i p : ℕ} {g : List Node} {path : List 
       from u y = let x : finish g p a.state ≡ u = cc in rw (sym x) (record { holds = b.holds; rest = λ j k. b.rest j k ∙ a.rest j k })
 
   -- with its replacement's id
-  pub inheriting : (q : ℕ) → replaced_by g p ≡ some q → Memᴰ q (next g p) → Walks g w₀ (set w p (get_or w q 0)) n path (under g d path p t) (On m)
+  pub inheriting : (q : ℕ) → replaced_by g p ≡ Some q → Memᴰ q (next g p) → Walks g w₀ (set w p (get_or w q 0)) n path (under g d path p t) (On m)
   inheriting q e k =
       let z = a.stands.charted.mapped.room in
       let (x, y) = inherits a.stands.fine a.stands.holds low (omega arith) e (gone_all a all q k) in

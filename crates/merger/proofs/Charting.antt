@@ -4,7 +4,7 @@ use Prim.Native.Nat.{ℕ, ◌+◌, ◌/◌, ◌<◌}
 use mathlib.Core.Path.{◌≡◌, refl, sym, ◌∙◌}
 use mathlib.Core.Bool.{not, ◌&&◌}
 use mathlib.Core.List.{List, [], Memᴰ}
-use mathlib.Core.Option.{none}
+use Rattle.std.specs.Prelude.{None}
 use native.Mathlib.Omega.{arith}
 use lib.ListN.{length, get_or, replicate}
 use Rattle.record.specs.Lists.{same}
@@ -63,7 +63,7 @@ module _ {limit : ℕ} {i : Input} {w : List ℕ} {n : ℕ} (past : Past limit i
     counts : length (graph i) ≡ n
     counts = graph_counted limit i past.sized.room (passes past) ∙ sym summed
 
-    good : bad_record i.nodes ≡ none
+    good : bad_record i.nodes ≡ None
     good = (checked limit i past.sized.room (passes past)).good
 
     within : Bounded (node_sum i.table) (graph i) (roots_of i)

@@ -3,7 +3,7 @@
 use Prim.Native.Nat.{ℕ, ◌+◌, ◌-◌, ◌*◌, ◌/◌, ◌<◌, ◌≤◌}
 use mathlib.Core.Path.{◌≡◌, refl, sym, ◌∙◌, ap}
 use mathlib.Core.List.{List}
-use mathlib.Core.Option.{Option, none}
+use Rattle.std.specs.Prelude.{Option, None}
 use native.Mathlib.Omega.{arith}
 use native.Mathlib.Numerals.{add-one}
 use lib.Dec.{leb}
@@ -51,17 +51,17 @@ module _ (t s : List ℕ) where
 
     -- c is the place behind the forest of position p, and m the node there
     module _ (c : Cursor) (a : AtNode t c p) (h : p < length s / size) (m : Node) (is : m ≡ node_at s p) where
-      kid : get_or (far_kids t s) p none ≡ far_kid (c.nodes - c.base) m
+      kid : get_or (far_kids t s) p None ≡ far_kid (c.nodes - c.base) m
       unfolding far_kids at
-      kid = node_here (λ b n. far_kid n) t c (nodes_of s) no_node none p a counted ∙ ap (far_kid (c.nodes - c.base)) (at_node_lem s p h ∙ sym is)
+      kid = node_here (λ b n. far_kid n) t c (nodes_of s) no_node None p a counted ∙ ap (far_kid (c.nodes - c.base)) (at_node_lem s p h ∙ sym is)
 
       pub near_found : (child : ℕ) → kid_of (last_of (leb (c.nodes - c.base)) (children m)) ≡ Child child → (rs : List ℕ) → At p child ≡ far_of (far_child (forests 0 (rows_of t) (nodes_of s) rs))
       unfolding first_some far_kid far_of
-      near_found child e rs = rw (far_child_is t s rs, k, drop-cons (far_kids t s) p none (omega (arith, long)), kid, child_some _ child e)
+      near_found child e rs = rw (far_child_is t s rs, k, drop-cons (far_kids t s) p None (omega (arith, long)), kid, child_some _ child e)
 
       pub near_step : kid_of (last_of (leb (c.nodes - c.base)) (children m)) ≡ Childless → Near t s (p + 1)
       unfolding first_some far_kid
-      near_step e = rw (k, drop-cons (far_kids t s) p none (omega (arith, long)), kid, childless_none _ e, add-one)
+      near_step e = rw (k, drop-cons (far_kids t s) p None (omega (arith, long)), kid, childless_none _ e, add-one)
 
     pub near_end : length s / size ≤ p → (rs : List ℕ) → Nowhere ≡ far_of (far_child (forests 0 (rows_of t) (nodes_of s) rs))
     unfolding first_some far_of

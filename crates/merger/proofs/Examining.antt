@@ -3,7 +3,7 @@
 use Prim.Native.Nat.{ℕ}
 use mathlib.Core.Path.{◌≡◌}
 use mathlib.Core.List.{List, [], ◌∷◌}
-use mathlib.Core.Option.{Option, some, none}
+use Rattle.std.specs.Prelude.{Option, Some, None}
 use Rattle.record.specs.Node.{nodes_of, bad, rows_of}
 use Rattle.record.specs.declared.Node.{Node}
 use Rattle.record.proofs.Basics.{clash}
@@ -38,7 +38,7 @@ module _ (t s rs : List ℕ) where
 
     -- there is none; u is the answer to the search for a far root
     module _ (good : q ≡ Nothing) (u : Place) (says : (ns : List Node) → u ≡ place_of (far_root (forests 0 (rows_of t) ns rs))) where
-      none_bad : lowest bad (nodes_of s) ≡ none
+      none_bad : lowest bad (nodes_of s) ≡ None
       none_bad = nothing_none _ q said good
 
       pub root_refused : (k : ℕ) → u ≡ At k → Refused (RootRange k) ≡ check_of (first (range_checks lent))
@@ -47,7 +47,7 @@ module _ (t s rs : List ℕ) where
 
       -- there is none; v is the answer to the search for a far child
       module _ (near : u ≡ Nothing) (v : Far) (tells : (rs : List ℕ) → v ≡ far_of (far_child (forests 0 (rows_of t) (nodes_of s) rs))) where
-        none_far : far_root (forests 0 (rows_of t) (nodes_of s) rs) ≡ none
+        none_far : far_root (forests 0 (rows_of t) (nodes_of s) rs) ≡ None
         none_far = nothing_none _ u (says (nodes_of s)) near
 
         pub child_refused : (p c : ℕ) → v ≡ far.At p c → Refused (ChildRange p c) ≡ check_of (first (range_checks lent))
@@ -55,8 +55,8 @@ module _ (t s rs : List ℕ) where
         child_refused p c e = rw (none_bad, none_far) (go (far_child (forests 0 (rows_of t) (nodes_of s) rs)) (tells rs))
           where
             go : (o : Option (ℕ × ℕ)) → v ≡ far_of o → Refused (ChildRange p c) ≡ check_of (first (naming (λ e. ChildRange e.0 e.1) o ∷ []))
-            go none z = absurd (clash cc)
-            go (some d) z = cc
+            go None z = absurd (clash cc)
+            go (Some d) z = cc
 
         pub ranges_passed : v ≡ far.Nowhere → Passed ≡ check_of (first (range_checks lent))
         unfolding range_checks bad_record root_range child_range forests_of naming first check_of

@@ -5,7 +5,7 @@ use mathlib.Core.Path.{◌≡◌, refl}
 use mathlib.Core.List.Memᴰ
 use mathlib.Core.List.{List, [], ◌∷◌, Memᴰ}
 use mathlib.Core.Logic.{◌⊎◌, inl, inr}
-use mathlib.Core.Option.{some, none}
+use Rattle.std.specs.Prelude.{Some, None}
 use native.Mathlib.Omega.{arith}
 use lib.ListN.{length, length-map}
 use Rattle.record.specs.declared.Node.{Node}
@@ -52,7 +52,7 @@ module _ (g : List Node) (n : ℕ) (inside : (p c : ℕ) → Memᴰ c (next g p)
   Runs : List ℕ → List ℕ → State → State → Type 0
   Runs path ps s t = ((c : ℕ) → Memᴰ c ps → c < n) → Steady g n s → Ran g n ps s t
 
-  passed : (path : List ℕ) (p : ℕ) (s : State) (i : ℕ) → id_in s.done p ≡ some i → Runs path (p ∷ []) s s
+  passed : (path : List ℕ) (p : ℕ) (s : State) (i : ℕ) → id_in s.done p ≡ Some i → Runs path (p ∷ []) s s
   unfolding Runs
   passed path p s i q h y = record { steady = y; ended = λ x m. rw (Memᴰ.eq_of_singleton m) (id_in_in s.done p i q); kept = λ x m. m }
 
@@ -71,7 +71,7 @@ module _ (g : List Node) (n : ℕ) (inside : (p c : ℕ) → Memᴰ c (next g p)
       go x z c (inl e) = z.kept c (x.ended c (Memᴰ.head e))
       go x z c (inr m) = z.ended c m
 
-  finished : (path : List ℕ) (p : ℕ) (s t : State) → ¬ Memᴰ p path → id_in s.done p ≡ none → Runs (p ∷ path) (next g p) s t → Runs path (p ∷ []) s (finish g p t)
+  finished : (path : List ℕ) (p : ℕ) (s t : State) → ¬ Memᴰ p path → id_in s.done p ≡ None → Runs (p ∷ path) (next g p) s t → Runs path (p ∷ []) s (finish g p t)
   unfolding Runs
   finished path p s t f q a h y =
       let r = a (inside p) y in

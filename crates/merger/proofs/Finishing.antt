@@ -4,7 +4,7 @@ use Prim.Native.Nat.{ℕ, ◌+◌, ◌<◌, ◌≤◌}
 use mathlib.Core.Path.{◌≡◌, refl, sym, ◌∙◌, ap}
 use mathlib.Core.List.{List, [], ◌∷◌, ◌++◌, Memᴰ}
 use mathlib.Core.Logic.{◌≢◌}
-use mathlib.Core.Option.{some}
+use Rattle.std.specs.Prelude.{Some}
 use native.Mathlib.Omega.{arith}
 use native.Mathlib.Decide.{ℕ_discrete}
 use lib.ListN.{length, get_or, set, length-set, length-append}
@@ -95,7 +95,7 @@ module _ {g : List Node} {w : List ℕ} {n p : ℕ} {path : List ℕ} {t : State
             (source_kept c (t.merged ++ x ∷ []) (at_before t.merged x j (omega arith)) (h.sources j (omega arith)))
 
 -- a replaced external takes its replacement's id
-pub inherits : {g : List Node} {w : List ℕ} {n p q : ℕ} {path : List ℕ} {t : State} → Fine g n (p ∷ path) t → Holds g w n (p ∷ path) t → p < n → bases_at n ≤ length w → replaced_by g p ≡ some q → Finished t q
+pub inherits : {g : List Node} {w : List ℕ} {n p q : ℕ} {path : List ℕ} {t : State} → Fine g n (p ∷ path) t → Holds g w n (p ∷ path) t → p < n → bases_at n ≤ length w → replaced_by g p ≡ Some q → Finished t q
     → (length t.merged ≡ length (finish g p t).merged) × Came g w (set w p (get_or w q 0)) n path (finish g p t)
 unfolding finish ended
 inherits {g} {w} {n} {p} {q} {path} {t} f h low wide e d = rw (e, finish) (refl, holds_ended f h low wide (id_of t q) (get_or w q 0) (word_of h q (f.within q d) d))

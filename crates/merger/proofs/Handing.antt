@@ -3,7 +3,7 @@
 use Prim.Native.Nat.{ℕ, ◌+◌, ◌*◌, ◌<◌, ◌≤◌}
 use mathlib.Core.Path.{◌≡◌, refl, sym, ◌∙◌, ap}
 use mathlib.Core.List.{List, map, Memᴰ}
-use mathlib.Core.Option.{Option, some, none}
+use Rattle.std.specs.Prelude.{Option, Some, None}
 use native.Mathlib.Omega.{arith}
 use lib.ListN.{length, get_or, length-map}
 use lib.Seq.{ext_get_or}
@@ -98,8 +98,8 @@ module _ {s w : List ℕ} {n m count : ℕ} {g : List Node} {ps : List ℕ} {t :
   id_is p h = rw (a.ids p h) (go (id_in t.done p) refl)
     where
       go : (r : Option ℕ) → id_in t.done p ≡ r → shown_as (carried_word o (id_in t.done p)) ≡ carried t o p
-      go none e = rw (e, carried) (sym (shown_none 0 (omega arith)))
-      go (some i) e = rw (e, carried) (sym (shown_id (place_in o i + 2) (omega arith)) ∙ omega arith)
+      go None e = rw (e, carried) (sym (shown_none 0 (omega arith)))
+      go (Some i) e = rw (e, carried) (sym (shown_id (place_in o i + 2) (omega arith)) ∙ omega arith)
 
   pub delivered : {a₀ a' b₀ b' c' : List ℕ} → a' ≡ over a₀ 0 (flat node_bytes (map (merged_at s w n) (span w (order_at n) (order_at n + m)))) → b' ≡ over b₀ 0 (span w (starts_at n) (starts_at n + count)) → c' ≡ map (λ p. shown_as (get_or w p 0)) (run 0 n)
       → Delivered g ps t a₀ a' b₀ b' c'

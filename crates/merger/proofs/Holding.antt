@@ -6,7 +6,7 @@ use mathlib.Core.Bool.{Bool, true, false}
 use mathlib.Core.List.Memᴰ
 use mathlib.Core.List.{List, ◌∷◌, Memᴰ}
 use mathlib.Core.Logic.{◌≢◌}
-use mathlib.Core.Option.{Option, some, none}
+use Rattle.std.specs.Prelude.{Option, Some, None}
 use native.Mathlib.Omega.{arith}
 use borrow.Author.Tests.{eq-eqb, ne_eqb}
 use lib.ListN.{length, get_or}
@@ -23,29 +23,29 @@ use Rattle.merger.specs.Walking.{Mapped, Charted, word, Holds}
 
 -- WORDS -------------------------------------------------------------------------------------------
 
-pub word_unseen : (o : Option ℕ) (b : Bool) → word o b ≡ 0 → (o ≡ none) × (b ≡ false)
+pub word_unseen : (o : Option ℕ) (b : Bool) → word o b ≡ 0 → (o ≡ None) × (b ≡ false)
 unfolding word
-word_unseen (some i) b e = absurd (omega arith)
-word_unseen none true e = absurd (omega arith)
-word_unseen none false e = (refl, refl)
+word_unseen (Some i) b e = absurd (omega arith)
+word_unseen None true e = absurd (omega arith)
+word_unseen None false e = (refl, refl)
 
-pub word_open : (o : Option ℕ) (b : Bool) → word o b ≡ 1 → (o ≡ none) × (b ≡ true)
+pub word_open : (o : Option ℕ) (b : Bool) → word o b ≡ 1 → (o ≡ None) × (b ≡ true)
 unfolding word
-word_open (some i) b e = absurd (omega arith)
-word_open none true e = (refl, refl)
-word_open none false e = absurd (omega arith)
+word_open (Some i) b e = absurd (omega arith)
+word_open None true e = (refl, refl)
+word_open None false e = absurd (omega arith)
 
-pub word_finished : (o : Option ℕ) (b : Bool) → 1 < word o b → (i : ℕ) × (o ≡ some i) × (word o b ≡ i + 2)
+pub word_finished : (o : Option ℕ) (b : Bool) → 1 < word o b → (i : ℕ) × (o ≡ Some i) × (word o b ≡ i + 2)
 unfolding word
-word_finished (some i) b h = (i, refl, refl)
-word_finished none true h = absurd (omega arith)
-word_finished none false h = absurd (omega arith)
+word_finished (Some i) b h = (i, refl, refl)
+word_finished None true h = absurd (omega arith)
+word_finished None false h = absurd (omega arith)
 
-pub word_one : word none true ≡ 1
+pub word_one : word None true ≡ 1
 unfolding word
 word_one = refl
 
-pub word_some : (o : Option ℕ) (b : Bool) (i : ℕ) → o ≡ some i → word o b ≡ i + 2
+pub word_some : (o : Option ℕ) (b : Bool) (i : ℕ) → o ≡ Some i → word o b ≡ i + 2
 unfolding word
 word_some o b i e = rw e
 
@@ -64,7 +64,7 @@ unfolding has
 has_self p path = rw (eq-eqb p p refl)
 
 -- ids once one more is given
-pub id_in_same : (d : List (ℕ × ℕ)) (p i : ℕ) → id_in ((p, i) ∷ d) p ≡ some i
+pub id_in_same : (d : List (ℕ × ℕ)) (p i : ℕ) → id_in ((p, i) ∷ d) p ≡ Some i
 unfolding id_in
 id_in_same d p i = rw (eq-eqb p p refl, id_in)
 

@@ -4,7 +4,7 @@ use Prim.Native.Nat.{ℕ}
 use mathlib.Core.Path.{◌≡◌, refl, sym, ◌∙◌}
 use mathlib.Core.Bool.{true, false, ◌||◌}
 use mathlib.Core.List.{List, Memᴰ}
-use mathlib.Core.Option.{some, none}
+use Rattle.std.specs.Prelude.{Some, None}
 use lib.Dec.{ltb}
 use lib.ListN.{length, length-map}
 use Rattle.record.specs.declared.Node.{Node}
@@ -47,7 +47,7 @@ went_deep (cycle q) p e = absurd (clash cc)
 went_deep (deep q) p e = cc
 
 module _ {limit : ℕ} {i : Input} (records roots n : ℕ) where
-  refuses : {w₁ : List ℕ} (r : Reply) → first (later_checks limit i records roots) ≡ some r → Joins limit i records roots w₁ n (Refused r)
+  refuses : {w₁ : List ℕ} (r : Reply) → first (later_checks limit i records roots) ≡ Some r → Joins limit i records roots w₁ n (Refused r)
   unfolding joined_of
   refuses r e = record { answer = rw e; settled = λ z. absurd (clash cc) }
 
@@ -92,7 +92,7 @@ module _ {limit : ℕ} {i : Input} (records roots n : ℕ) where
           → Settled i.nodes w₂ n m count g (starts i.table i.roots) t) where
         -- the result is settled, and so long
         record Closed : Type 0 where
-          onto : stopped (walk_of limit i) ≡ none
+          onto : stopped (walk_of limit i) ≡ None
           nodes : length (result_of limit i).nodes ≡ m
           heads : length (result_of limit i).roots ≡ count
           settled : Settled i.nodes w₂ n m count (graph i) (roots_of i) (state_of (walk_of limit i))
@@ -119,5 +119,5 @@ module _ {limit : ℕ} {i : Input} (records roots n : ℕ) where
         unfolding walk_checks first when joined_of
         whole e =
             let z = closed in
-            let f : first (later_checks limit i records roots) ≡ none = behind ∙ rw (z.onto, z.nodes, z.heads, e) refl in
+            let f : first (later_checks limit i records roots) ≡ None = behind ∙ rw (z.onto, z.nodes, z.heads, e) refl in
             record { answer = rw (f, z.nodes, z.heads); settled = λ k. rw (z.nodes, z.heads) z.settled }

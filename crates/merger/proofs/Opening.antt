@@ -6,7 +6,7 @@ use mathlib.Core.Bool.{false}
 use mathlib.Core.List.Memᴰ
 use mathlib.Core.List.{List, ◌∷◌, Memᴰ}
 use mathlib.Core.Logic.{◌⊎◌, inl, inr}
-use mathlib.Core.Option.{none}
+use Rattle.std.specs.Prelude.{None}
 use native.Mathlib.Omega.{arith}
 use native.Mathlib.Decide.{ℕ_discrete}
 use lib.ListN.{length, get_or, set, length-set}
@@ -33,7 +33,7 @@ module _ {s w : List ℕ} {n h m : ℕ} {g : List Node} {path : List ℕ} {t : S
 
   -- the word says what p is
   module _ (e : get_or w p 0 ≡ 0) where
-    is_unseen : (id_in t.done p ≡ none) × (has p path ≡ false)
+    is_unseen : (id_in t.done p ≡ None) × (has p path ≡ false)
     is_unseen = word_unseen (id_in t.done p) (has p path) (sym (q.holds.states p low) ∙ e)
 
     pub opens_new : ¬ Memᴰ p path

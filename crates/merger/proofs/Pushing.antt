@@ -3,7 +3,7 @@
 use Prim.Native.Nat.{ℕ, ◌+◌, ◌<◌, ◌≤◌}
 use mathlib.Core.Path.{◌≡◌, refl, sym, ◌∙◌}
 use mathlib.Core.List.{List, [], ◌∷◌, map}
-use mathlib.Core.Option.{some, none}
+use Rattle.std.specs.Prelude.{Some, None}
 use native.Mathlib.Omega.{arith}
 use lib.ListN.{length, get_or, set, length-append}
 use Rattle.record.specs.Lists.{run}
@@ -52,7 +52,7 @@ module _ {s w : List ℕ} {n m p : ℕ} {g : List Node} {path : List ℕ} {t : S
 
       -- an equal earlier node has the id k
       module _ (k : ℕ) (e : r ≡ At k) where
-        found : lowest (same_node (renumber (id_of t) (at g p))) t.merged ≡ some k
+        found : lowest (same_node (renumber (id_of t) (at g p))) t.merged ≡ Some k
         found = sym found_is ∙ at_some _ r k f e
 
         pub found_low : k < m
@@ -66,6 +66,6 @@ module _ {s w : List ℕ} {n m p : ℕ} {g : List Node} {path : List ℕ} {t : S
       pub pushed_new : r ≡ Nothing → (m + 1 ≡ length (finish g p t).merged) × Came g w (set (set w (sources_at n + m) p) p (m + 2)) n path (finish g p t)
       unfolding finish push ended
       pushed_new e =
-          let z : lowest (same_node (renumber (id_of t) (at g p))) t.merged ≡ none = sym found_is ∙ nothing_none _ r f e in
+          let z : lowest (same_node (renumber (id_of t) (at g p))) t.merged ≡ None = sym found_is ∙ nothing_none _ r f e in
           let l = length-append t.merged (renumber (id_of t) (at g p) ∷ []) in
           rw (q.kept, finish, z, push, q.counted) (omega arith, holds_new q.fine q.holds q.below wide (renumber (id_of t) (at g p)) refl q.ended)

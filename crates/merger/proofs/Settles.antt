@@ -3,7 +3,7 @@
 use Prim.Native.Nat.{ℕ, ◌+◌, ◌<◌, ◌≤◌}
 use mathlib.Core.Path.{◌≡◌, refl, sym, ◌∙◌, ap}
 use mathlib.Core.List.{List, [], map, Memᴰ, append-nil}
-use mathlib.Core.Option.{Option, some, none}
+use Rattle.std.specs.Prelude.{Option, Some, None}
 use native.Mathlib.Omega.{arith}
 use lib.ListN.{length, get_or}
 use Rattle.record.specs.declared.Node.{Node}
@@ -44,11 +44,11 @@ module _ {s w : List ℕ} {n m : ℕ} {g : List Node} {t : State} (a : Ended s w
   place_low k h = let l = order_long in let b : place_in o k < length o = rw append-nil at (place_lt k o [] (in_order k h)) in omega arith
 
   -- the word of a finished position, and of another
-  word_some : (p i : ℕ) → p < n → id_in t.done p ≡ some i → get_or w p 0 ≡ i + 2
+  word_some : (p i : ℕ) → p < n → id_in t.done p ≡ Some i → get_or w p 0 ≡ i + 2
   unfolding word
   word_some p i h e = a.holds.states p h ∙ rw (e, word) refl
 
-  word_none : (p : ℕ) → p < n → id_in t.done p ≡ none → get_or w p 0 ≡ 0
+  word_none : (p : ℕ) → p < n → id_in t.done p ≡ None → get_or w p 0 ≡ 0
   unfolding word has
   word_none p h e = a.holds.states p h ∙ rw (e, word) refl
 
@@ -94,8 +94,8 @@ module _ {s w : List ℕ} {n m : ℕ} {g : List Node} {t : State} (a : Ended s w
       id_of_lem p h b = go (id_in t.done p) refl
         where
           go : (r : Option ℕ) → id_in t.done p ≡ r → (i : ℕ) × ((get_or w₂ p 0 ≡ i + 2) × (i < m))
-          go none e = absurd (let x = word₂ p h in let y = word_none p h e in omega arith)
-          go (some i) e = let k = a.fine.sound.named p i e in let c = a.counted in (i, (word₂ p h ∙ word_some p i h e, omega arith))
+          go None e = absurd (let x = word₂ p h in let y = word_none p h e in omega arith)
+          go (Some i) e = let k = a.fine.sound.named p i e in let c = a.counted in (i, (word₂ p h ∙ word_some p i h e, omega arith))
 
       pub movable : Movable w₂ n
       movable = record {
@@ -106,7 +106,7 @@ module _ {s w : List ℕ} {n m : ℕ} {g : List Node} {t : State} (a : Ended s w
       }
 
       module _ {w₃ : List ℕ} (l₃ : length w₃ ≡ length w₂) (three : Moved w₂ w₃ n) where
-        moved_some : (p i : ℕ) → p < n → id_in t.done p ≡ some i → get_or w₃ p 0 ≡ place_in o i + 2
+        moved_some : (p i : ℕ) → p < n → id_in t.done p ≡ Some i → get_or w₃ p 0 ≡ place_in o i + 2
         moved_some p i h e =
             let k = a.fine.sound.named p i e in
             let c = a.counted in
@@ -120,15 +120,15 @@ module _ {s w : List ℕ} {n m : ℕ} {g : List Node} {t : State} (a : Ended s w
         moved_word p h = go (id_in t.done p) refl
           where
             go : (r : Option ℕ) → id_in t.done p ≡ r → get_or w₃ p 0 ≡ carried_word o r
-            go none e = let x = word₂ p h in let y = word_none p h e in three.unseen p h (omega arith) ∙ (x ∙ y)
-            go (some i) e = moved_some p i h e
+            go None e = let x = word₂ p h in let y = word_none p h e in three.unseen p h (omega arith) ∙ (x ∙ y)
+            go (Some i) e = moved_some p i h e
 
         -- what stands from the sources on, but in the sections that are written, is as it was
         far₃ : (y : ℕ) → n ≤ y → (spare_at n ≤ y → listed_at n ≤ y) → get_or w₃ y 0 ≡ get_or w y 0
         far₃ y h b = three.rest y h ∙ (two.rest y (λ z. omega (arith, b (omega arith))) ∙ one.rest y (λ z. omega (arith, b z)))
 
         module _ (table roots : List ℕ) (long : length roots ≡ root_sum table) (ended : (x : ℕ) → Memᴰ x (starts table roots) → Finished t x) where
-          root_word : (x : ℕ) → Memᴰ x (starts table roots) → (i : ℕ) × ((id_in t.done x ≡ some i) × ((get_or w₃ x 0 ≡ place_in o i + 2) × (i < m)))
+          root_word : (x : ℕ) → Memᴰ x (starts table roots) → (i : ℕ) × ((id_in t.done x ≡ Some i) × ((get_or w₃ x 0 ≡ place_in o i + 2) × (i < m)))
           root_word x h = let (i, e) = in_id_in t.done x (ended x h) in let k = a.fine.sound.named x i e in let c = a.counted in (i, (e, (moved_some x i (a.fine.within x (ended x h)) e, omega arith)))
 
           root_ends : (x : ℕ) → Memᴰ x (starts table roots) → Ends w₃ n x

@@ -1,8 +1,7 @@
 -- Steps 4 and 5 in the work room: the canonical order of the merged nodes, ids carried through it, and the roots.
 -- Assumes nothing: these are definitions.
-use Rattle.std.specs.Prelude.{ℕ, ◌+◌, ◌<◌, ◌≤◌, ◌≡◌, length, get_or}
+use Rattle.std.specs.Prelude.{ℕ, ◌+◌, ◌<◌, ◌≤◌, ◌≡◌, length, get_or, Option, Some, None}
 use mathlib.Core.List.{List, [], map, Memᴰ}
-use Rattle.std.proofs.Math.Option.{Option, some, none}
 use Rattle.record.specs.Lists.{over, flat}
 use Rattle.record.specs.Node.{node_bytes}
 use Rattle.record.specs.declared.Node.{Node}
@@ -17,8 +16,8 @@ use Rattle.merger.specs.Walking.{Mapped, Fine, Source, Ended}
 
 -- the word of a position once its id is carried through the order o: 2 more than its new id, or 0
 unfoldable pub carried_word : List ℕ → Option ℕ → ℕ
-carried_word o none = 0
-carried_word o (some i) = place_in o i + 2
+carried_word o None = 0
+carried_word o (Some i) = place_in o i + 2
 
 -- a walk has ended here, and the positions ps are finished
 pub record Over (s w : List ℕ) (n m : ℕ) (ps : List ℕ) : Type 0 where

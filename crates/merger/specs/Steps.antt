@@ -1,7 +1,6 @@
 -- Merge's steps: what each part of its checks looks at, and what its walk and its result leave in the room.
 -- Assumes nothing: these are definitions.
-use Rattle.std.specs.Prelude.{ℕ, ◌*◌, ◌%◌, ◌≡◌, not, ◌&&◌, ◌||◌, List, [], ◌∷◌, ◌++◌, leb, ltb, eqb, length}
-use Rattle.std.proofs.Math.Option.{Option, some, none}
+use Rattle.std.specs.Prelude.{ℕ, ◌*◌, ◌%◌, ◌≡◌, not, ◌&&◌, ◌||◌, List, [], ◌∷◌, ◌++◌, leb, ltb, eqb, length, Option, Some, None}
 use Rattle.record.specs.Node.{size, row_size, rows_of}
 use Rattle.forest.specs.Canonicalize.{root_range, child_range}
 use Rattle.forest.specs.Lent.{Input, Room, Result, work_words, most, when, first}
@@ -55,12 +54,12 @@ later_checks limit i records starts = range_checks i ++ walk_checks limit i reco
 pub record Sized (limit : ℕ) (i : Input) (w : List ℕ) : Type 0 where
   pub room : Room
   pub long : length w ≡ length room.work
-  pub passes : first (size_checks limit i.table (length i.nodes) (length i.roots) (length room.ids) (length room.work)) ≡ none
+  pub passes : first (size_checks limit i.table (length i.nodes) (length i.roots) (length room.ids) (length room.work)) ≡ None
 
 -- so are records and ranges
 pub record Past (limit : ℕ) (i : Input) (w : List ℕ) : Type 0 where
   pub sized : Sized limit i w
-  pub ranged : first (range_checks i) ≡ none
+  pub ranged : first (range_checks i) ≡ None
 
 -- the walk's answer is r; if it has come to t, so has the room w
 pub record Ends (limit : ℕ) (i : Input) (w : List ℕ) (n : ℕ) (r : Went) : Type 0 where
@@ -69,11 +68,11 @@ pub record Ends (limit : ℕ) (i : Input) (w : List ℕ) (n : ℕ) (r : Went) : 
 
 -- a refusal, or how many nodes and roots the result has
 unfoldable pub joined_of : Option Reply → Result → Joined
-joined_of (some r) x = Refused r
-joined_of none x = Whole (length x.nodes) (length x.roots)
+joined_of (Some r) x = Refused r
+joined_of None x = Whole (length x.nodes) (length x.roots)
 
 -- the answer to all checks behind the sizes is r; if none refuses, the room w holds the result
 pub record Joins (limit : ℕ) (i : Input) (records starts : ℕ) (w : List ℕ) (n : ℕ) (r : Joined) : Type 0 where
   pub answer : r ≡ joined_of (first (later_checks limit i records starts)) (result_of limit i)
-  pub settled : first (later_checks limit i records starts) ≡ none
+  pub settled : first (later_checks limit i records starts) ≡ None
       → Settled i.nodes w n (length (result_of limit i).nodes) (length (result_of limit i).roots) (graph i) (roots_of i) (state_of (walk_of limit i))

@@ -1,8 +1,7 @@
 -- The walk in the work room: the graph that records and bases give, and how the room holds the walk's state.
 -- Assumes nothing: these are definitions.
-use Rattle.std.specs.Prelude.{ℕ, ◌+◌, ◌-◌, ◌*◌, ◌/◌, ◌<◌, ◌≤◌, ◌≡◌, Bool, true, false, not, length, get_or}
+use Rattle.std.specs.Prelude.{ℕ, ◌+◌, ◌-◌, ◌*◌, ◌/◌, ◌<◌, ◌≤◌, ◌≡◌, Bool, true, false, not, length, get_or, Option, Some, None}
 use mathlib.Core.List.{List, [], ◌∷◌, Memᴰ}
-use Rattle.std.proofs.Math.Option.{Option, some, none}
 use Rattle.record.specs.Lists.{run}
 use Rattle.record.specs.Node.{fields, size, node_at, nodes_of, is_external, children, renumber}
 use Rattle.record.specs.declared.Node.{Node}
@@ -67,9 +66,9 @@ pub record Shelved (s w w' : List ℕ) (n r : ℕ) : Type 0 where
 
 -- the word of a position: 2 more than its new id, 1 if it is open, 0 if it is unseen
 unfoldable pub word : Option ℕ → Bool → ℕ
-word (some i) b = i + 2
-word none true = 1
-word none false = 0
+word (Some i) b = i + 2
+word None true = 1
+word None false = 0
 
 -- the node at position p with the ids that the room has for its children
 unfoldable pub merged_at : List ℕ → List ℕ → ℕ → ℕ → Node
@@ -83,7 +82,7 @@ pub record Readable (s w : List ℕ) (n p : ℕ) : Type 0 where
 
 -- the merged id k comes from position q
 pub record Source (g : List Node) (t : State) (q k : ℕ) : Type 0 where
-  pub own : id_in t.done q ≡ some k
+  pub own : id_in t.done q ≡ Some k
   pub node : at t.merged k ≡ renumber (id_of t) (at g q)
 
 -- with the nodes of `path` open, the walk has come to t
@@ -128,7 +127,7 @@ pub record Pushing (s w : List ℕ) (n m p : ℕ) (g : List Node) (path : List �
   pub counted : m ≡ length t.merged
   pub below : p < n
   pub new : ¬ Memᴰ p path
-  pub kept : replaced_by g p ≡ none
+  pub kept : replaced_by g p ≡ None
   pub ended : (c : ℕ) → Memᴰ c (next g p) → Finished t c
 
 pub record Pushable (s w : List ℕ) (n m p : ℕ) : Type 0 where

@@ -4,7 +4,7 @@ use Prim.Native.Nat.{ℕ, zero, suc, ◌+◌, ◌-◌, ◌*◌, ◌/◌, ◌%◌
 use mathlib.Core.Path.{◌≡◌, refl, ap, sym, ◌∙◌}
 use mathlib.Core.Bool.{true, false, not}
 use mathlib.Core.List.{List}
-use mathlib.Core.Option.{some, none}
+use Rattle.std.specs.Prelude.{Some, None}
 use native.Mathlib.Decide.{dec_lt}
 use native.Mathlib.Omega.{arith}
 use borrow.Author.Tests.{eq-eqb, ne_eqb}
@@ -33,10 +33,10 @@ module _ (w : List ℕ) (at n : ℕ) (h : 1 ≤ n) (l : n ≤ width) where
   first_word : word w at 0 ≡ get_or w at 0
   first_word = let z : at + 0 ≡ at = omega arith in ap (λ (p : ℕ). get_or w p 0) z
 
-  pub first_none : get_or w at 0 ≡ 0 → lowest (λ k. not (eqb (word w at k) 0)) (run 0 (words n)) ≡ none
+  pub first_none : get_or w at 0 ≡ 0 → lowest (λ k. not (eqb (word w at k) 0)) (run 0 (words n)) ≡ None
   first_none e = rw one_word (none_lowest _ _ (λ k m. let b = (run_in 0 1 k m).1 in let z : k ≡ 0 = omega arith in rw z (tells (first_word ∙ e))))
 
-  pub first_some_lem : (get_or w at 0 ≡ 0 → ⊥) → lowest (λ k. not (eqb (word w at k) 0)) (run 0 (words n)) ≡ some 0
+  pub first_some_lem : (get_or w at 0 ≡ 0 → ⊥) → lowest (λ k. not (eqb (word w at k) 0)) (run 0 (words n)) ≡ Some 0
   first_some_lem d = rw one_word (lowest_at _ 0 1 0 (λ x b. absurd (omega arith)) (ap not (ne_eqb (word w at 0) 0 (λ e. d (sym first_word ∙ e)))) (omega arith))
 
 module _ {w : List ℕ} {at n : ℕ} (t : Tree w at n) where
@@ -53,13 +53,13 @@ module _ {w : List ℕ} {at n : ℕ} (t : Tree w at n) where
   idle i e = ap (λ (y : ℕ). not (eqb (bit y (i % width)) 0)) e ∙ tells (bit_zero (i % width))
 
   -- every word of the row is 0
-  pub id_none : lowest (λ k. not (eqb (word w at k) 0)) (run 0 (words n)) ≡ none → lowest (member w at n) (run 0 n) ≡ none
+  pub id_none : lowest (λ k. not (eqb (word w at k) 0)) (run 0 (words n)) ≡ None → lowest (member w at n) (run 0 n) ≡ None
   id_none e =
       none_lowest _ _
       (λ i m. let b = (run_in 0 n i m).1 in idle i (is_zero _ (lowest_none (λ (k : ℕ). not (eqb (word w at k) 0)) _ e (i / width) (in_run 0 (words n) (i / width) (omega arith) (omega arith)))))
 
   -- word k is the first that is not 0
-  module _ {k : ℕ} (e : lowest (λ k. not (eqb (word w at k) 0)) (run 0 (words n)) ≡ some k) (small : word w at k < 2 ^ width) where
+  module _ {k : ℕ} (e : lowest (λ k. not (eqb (word w at k) 0)) (run 0 (words n)) ≡ Some k) (small : word w at k < 2 ^ width) where
     pub in_row : k < words n
     in_row = (lowest_ids _ (words n) k e).1
 
@@ -74,7 +74,7 @@ module _ {w : List ℕ} {at n : ℕ} (t : Tree w at n) where
           | no q ↦ let z = (row_of t).clear k _ in_row b (omega arith) in let y = lowest_set.found in absurd (omega arith)
         ]
 
-    pub id_some : lowest (member w at n) (run 0 n) ≡ some (width * k + count_trailing_zeros width (word w at k))
+    pub id_some : lowest (member w at n) (run 0 n) ≡ Some (width * k + count_trailing_zeros width (word w at k))
     id_some = lowest_at (member w at n) 0 n _ before found id_below
       where
         b : count_trailing_zeros width (word w at k) < width
