@@ -4,7 +4,7 @@ use Prim.Native.Nat.{ℕ, ◌+◌, ◌*◌, ◌/◌, ◌%◌, ◌≤◌}
 use mathlib.Core.Path.{◌≡◌, refl, sym, ◌∙◌, ap}
 use mathlib.Core.Bool.{true, false}
 use mathlib.Core.List.{List, [], ◌++◌, append-nil}
-use Rattle.std.specs.Prelude.{Option, None}
+use Rattle.std.specs.Prelude.{Option, None, Ok, Err}
 use native.Mathlib.Omega.{arith}
 use borrow.Author.Tests.{ltb-false, eqb-true, not-false}
 use lib.ListN.{length, replicate, length-map, drop_of_length-le}
@@ -22,10 +22,8 @@ use Rattle.claims.specs.Checks.{first_none, when_none}
 use Rattle.claims.specs.Leaves.{Leaving, leaving_nil, leaving_when, leaving_naming, accepted_clears, first_stops, refused_is, accepted_is}
 use Rattle.claims.specs.Settled.{answered_past}
 use Rattle.room.proofs.Spans.{span_length}
-use Rattle.dense_order.specs.Found.{check_of}
+use Rattle.dense_order.specs.Found.{Checked, check_of}
 use Rattle.dense_order.specs.Steps.{Fitting, size_checks, forest_checks, Answers, Deliverable, Delivered}
-use Rattle.dense_order.specs.declared.Check.{Check}
-use Rattle.dense_order.specs.declared.Check.TheVariants.{Passed, Refused}
 use Rattle.dense_order.proofs.Options.{refused_some, passed_none}
 
 -- WHAT A REFUSAL DOES TO THE WORK ROOM ------------------------------------------------------------
@@ -99,8 +97,8 @@ module _ (s rs a b c w : List ℕ) where
       }
 
   -- q is the answer to the checks of sizes
-  module _ (q : Check) (said : q ≡ check_of (first sizes)) where
-    pub sizes_refused : (r : Reply) → q ≡ Refused r → called ≡ record { reply = r; room = record { nodes = a; roots = b; ids = c; work = w } }
+  module _ (q : Checked Unit) (said : q ≡ check_of (first sizes)) where
+    pub sizes_refused : (r : Reply) → q ≡ Err r → called ≡ record { reply = r; room = record { nodes = a; roots = b; ids = c; work = w } }
     unfolding refuse worked
     sizes_refused r e =
         let f = refused_some (first sizes) r (sym said ∙ e) in
@@ -108,7 +106,7 @@ module _ (s rs a b c w : List ℕ) where
         ∙ (refused_is _ _ _ r (first_stops sizes (forest_checks s rs) r f)
         ∙ rw (sizes_leave (length s) (length rs) (length a) (length b) (length c) (length w) r f, worked))
 
-    module _ (passed : q ≡ Passed) where
+    module _ (passed : q ≡ (Ok tt)) where
       fits : first sizes ≡ None
       fits = passed_none (first sizes) (sym said ∙ passed)
 
@@ -119,20 +117,20 @@ module _ (s rs a b c w : List ℕ) where
       fitting l = record { counted = refl; few = lengths.few; room = rw l lengths.room }
 
       -- t is the answer to the checks of the forest, w₁ the room after them
-      module _ {w₁ : List ℕ} (long : length w₁ ≡ length w) (t : Check) (told : Answers (forest_checks s rs) s w₁ (length s / size) t) where
-        pub deliverable : t ≡ Passed → Deliverable s rs w₁ (length s / size)
+      module _ {w₁ : List ℕ} (long : length w₁ ≡ length w) (t : Checked Unit) (told : Answers (forest_checks s rs) s w₁ (length s / size) t) where
+        pub deliverable : t ≡ (Ok tt) → Deliverable s rs w₁ (length s / size)
         deliverable e =
             let p = passed_none (first (forest_checks s rs)) (sym told.answer ∙ e) in
             record { whole = lengths.whole; fitting = fitting long; passed = p; arranged = told.arranged p }
 
         module _ {z : List ℕ} (zeros : z ≡ replicate (length w₁) 0) where
-          pub forest_refused : (r : Reply) → t ≡ Refused r → called ≡ record { reply = r; room = record { nodes = a; roots = b; ids = c; work = z } }
+          pub forest_refused : (r : Reply) → t ≡ Err r → called ≡ record { reply = r; room = record { nodes = a; roots = b; ids = c; work = z } }
           unfolding refuse worked
           forest_refused r e =
               let f = refused_some (first (forest_checks s rs)) r (sym told.answer ∙ e) in
               by_steps ∙ (answered_past _ sizes (forest_checks s rs) _ fits ∙ (refused_is _ _ _ r f ∙ rw (forest_clears s rs r f, worked, zeros, long)))
 
-          pub all_passed : {a' b' c' : List ℕ} → t ≡ Passed → length a' ≡ length a → length b' ≡ length b → Delivered s rs a' b' c'
+          pub all_passed : {a' b' c' : List ℕ} → t ≡ (Ok tt) → length a' ≡ length a → length b' ≡ length b → Delivered s rs a' b' c'
               → called ≡ record { reply = Accepted (length s / size) (length rs); room = record { nodes = a'; roots = b'; ids = c'; work = z } }
           unfolding accept canonical arranged
           all_passed {a'} {b'} {c'} e x y d =

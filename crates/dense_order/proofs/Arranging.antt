@@ -4,7 +4,7 @@ use Prim.Native.Nat.{ℕ, ◌/◌, ◌<◌}
 use mathlib.Core.Path.{◌≡◌, ◌∙◌}
 use mathlib.Core.Bool.{not}
 use mathlib.Core.List.{List, [], ◌∷◌, map}
-use Rattle.std.specs.Prelude.{Option, Some, None}
+use Rattle.std.specs.Prelude.{Option, Some, None, Ok, Err}
 use native.Mathlib.Omega.{arith}
 use native.Mathlib.Decide.{dec_lt}
 use lib.Dec.{ltb, eqb}
@@ -21,29 +21,20 @@ use Rattle.forest.specs.Order.{externals, unreleased, repeat}
 use Rattle.forest.specs.Validate.{bad_record}
 use Rattle.forest.specs.declared.Reply.{Reply}
 use Rattle.forest.specs.declared.Reply.TheVariants.{BadRecord, RootRange, DuplicateExternal, ChildRange, Cycle}
-use Rattle.room.specs.Places.{place_of}
 use Rattle.room.specs.Sections.{span}
-use Rattle.room.specs.declared.Place.{Place}
-use Rattle.room.specs.declared.Place.TheVariants as room
-use Rattle.room.specs.declared.Place.TheVariants.{Nothing}
-use Rattle.room.proofs.Answers.{at_some, nothing_none}
 use Rattle.sorting.specs.Promises.{Listed}
 use Rattle.sorting.specs.Digests.{less}
 use Rattle.sorting.proofs.SortLaws.{sort_all}
 use Rattle.sorting.proofs.Uses.{kept_listed}
-use Rattle.dense_order.specs.Found.{far_of, check_of}
+use Rattle.dense_order.specs.Found.{Checked, check_of}
 use Rattle.dense_order.specs.Kinds.{Ordered, of_kind, Blank, Externals}
 use Rattle.dense_order.specs.Steps.{Fitting, forest_checks, Answers}
-use Rattle.dense_order.specs.declared.Far.{Far}
-use Rattle.dense_order.specs.declared.Far.TheVariants.{At}
-use Rattle.dense_order.specs.declared.Check.{Check}
-use Rattle.dense_order.specs.declared.Check.TheVariants.{Passed, Refused}
 use Rattle.dense_order.proofs.Gathering.{externals_kind}
 use Rattle.dense_order.proofs.RootRange.{far_root_is}
 
 -- REFUSALS ----------------------------------------------------------------------------------------
 
-pub refuses : {os : List (Option Reply)} {s w : List ℕ} {n : ℕ} (r : Reply) → first os ≡ Some r → Answers os s w n (Refused r)
+pub refuses : {os : List (Option Reply)} {s w : List ℕ} {n : ℕ} (r : Reply) → first os ≡ Some r → Answers os s w n (Err r)
 unfolding check_of
 refuses r e = record { answer = rw e; arranged = λ z. absurd (clash cc) }
 
@@ -53,11 +44,11 @@ module _ (g : List Node) where
   duplicate p e = rw e
 
   module _ (differ : repeat g (externals g) ≡ None) where
-    pub too_far : (r : Far) (p c : ℕ) → r ≡ far_of (far_child (alone g [])) → r ≡ At p c → first (disorders g) ≡ Some (ChildRange p c)
-    unfolding disorders child_range naming first far_of
+    pub too_far : (r : Option (ℕ × ℕ)) (p c : ℕ) → r ≡ (far_child (alone g [])) → r ≡ Some (p, c) → first (disorders g) ≡ Some (ChildRange p c)
+    unfolding disorders child_range naming first
     too_far r p c e q = rw differ (go (far_child (alone g [])) e)
       where
-        go : (o : Option (ℕ × ℕ)) → r ≡ far_of o → first (naming (λ e. ChildRange e.0 e.1) o ∷ naming Cycle (unreleased g) ∷ []) ≡ Some (ChildRange p c)
+        go : (o : Option (ℕ × ℕ)) → r ≡ o → first (naming (λ e. ChildRange e.0 e.1) o ∷ naming Cycle (unreleased g) ∷ []) ≡ Some (ChildRange p c)
         go None e = absurd (clash cc)
         go (Some d) e = cc
 
@@ -70,11 +61,11 @@ module _ (g : List Node) where
       unfolding disorders child_range naming first
       passing e = rw (differ, near, e)
 
-pub passes : {s w : List ℕ} {n : ℕ} {r : Place} → repeat (nodes_of s) (externals (nodes_of s)) ≡ None → far_child (alone (nodes_of s) []) ≡ None → Ordered s w n r → r ≡ Nothing
-    → Answers (disorders (nodes_of s)) s w n Passed
+pub passes : {s w : List ℕ} {n : ℕ} {r : Option ℕ} → repeat (nodes_of s) (externals (nodes_of s)) ≡ None → far_child (alone (nodes_of s) []) ≡ None → Ordered s w n r → r ≡ None
+    → Answers (disorders (nodes_of s)) s w n (Ok tt)
 unfolding check_of
 passes {s} {w} {n} {r} differ near o e =
-    let u = nothing_none (unreleased (nodes_of s)) r o.answer e in
+    let u = (sym o.answer ∙ e) in
     record { answer = rw (passing (nodes_of s) differ near u); arranged = λ z. record { whole = o.whole u; marks = o.marks } }
 
 -- the listed externals are numbers of nodes
@@ -83,12 +74,12 @@ unfolding of_kind Listed
 externals_numbered {s} x = rw (x.first, externals_kind s) (sort_all (less s) (kept_listed s (λ p. eqb (node_at s p).kind 0)))
 
 -- what the search among the listed externals says of all
-module _ {s w : List ℕ} {n r : ℕ} (x : Externals s w n r) (q : Place) (said : q ≡ place_of (repeat (nodes_of s) (span w 0 r))) where
+module _ {s w : List ℕ} {n r : ℕ} (x : Externals s w n r) (q : Option ℕ) (said : q ≡ (repeat (nodes_of s) (span w 0 r))) where
   pub one_repeats : (p : ℕ) → q ≡ room.At p → repeat (nodes_of s) (externals (nodes_of s)) ≡ Some p
-  one_repeats p e = at_some _ q p (said ∙ rw x.first) e
+  one_repeats p e = (sym (said ∙ rw x.first) ∙ e)
 
-  pub none_repeats : q ≡ Nothing → repeat (nodes_of s) (externals (nodes_of s)) ≡ None
-  none_repeats e = nothing_none _ q (said ∙ rw x.first) e
+  pub none_repeats : q ≡ None → repeat (nodes_of s) (externals (nodes_of s)) ≡ None
+  none_repeats e = (sym (said ∙ rw x.first) ∙ e)
 
 -- RECORDS AND ROOTS -------------------------------------------------------------------------------
 
@@ -109,7 +100,7 @@ module _ (s rs : List ℕ) where
     unfolding forest_checks root_range naming first
     root_refused i e = rw (good-records, ← roots_are, e)
 
-    pub onward : {w : List ℕ} {r : Check} → lowest not (map (λ x. ltb x n) rs) ≡ None → Answers (disorders (nodes_of s)) s w n r → Answers (forest_checks s rs) s w n r
+    pub onward : {w : List ℕ} {r : Checked Unit} → lowest not (map (λ x. ltb x n) rs) ≡ None → Answers (disorders (nodes_of s)) s w n r → Answers (forest_checks s rs) s w n r
     unfolding forest_checks root_range naming first
     onward e a = record { answer = a.answer ∙ rw (good-records, ← roots_are, e); arranged = λ z. a.arranged (let y = z in rw (good-records, ← roots_are, e) at y) }
 

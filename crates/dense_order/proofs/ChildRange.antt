@@ -1,5 +1,6 @@
 -- Laws of a loop that seeks the first node with a child past the whole records.
 -- Assumes nothing.
+use Rattle.std.specs.Prelude.{Some, None}
 use Prim.Native.Nat.{ℕ, ◌+◌, ◌/◌, ◌<◌, ◌≤◌}
 use mathlib.Core.Path.{◌≡◌}
 use mathlib.Core.List.{List, [], map, append-nil}
@@ -13,12 +14,7 @@ use Rattle.record.proofs.Nodes.{length_nodes_of}
 use Rattle.forest.specs.Lists.{last_of, first_some}
 use Rattle.forest.specs.Graph.{far_kid, far_child}
 use Rattle.forest.specs.Canonicalize.{alone}
-use Rattle.dense_order.specs.Found.{kid_of}
-use Rattle.dense_order.specs.declared.Kid.TheVariants.{Child, Childless}
-use Rattle.dense_order.proofs.Options.{child_some, childless_none}
 use Rattle.dense_order.proofs.Rest.{nodes_from, rest_all, rest_step, rest_end}
-use Rattle.dense_order.specs.Found.{far_of}
-use Rattle.dense_order.specs.declared.Far.TheVariants.{At, Nowhere}
 
 -- no node before number i has a child past the whole records
 abbrev pub Near : List ℕ → ℕ → Type 0
@@ -32,14 +28,14 @@ module _ (s : List ℕ) where
   module _ (i : ℕ) (k : Near s i) where
     -- m is node record number i
     module _ (h : i < length s / size) (m : Node) (is : m ≡ node_at s i) where
-      pub near_found : (c : ℕ) → kid_of (last_of (leb (length s / size)) (children m)) ≡ Child c → At i c ≡ far_of (far_child (alone (nodes_of s) []))
-      unfolding first_some far_kid far_of
-      near_found c e = rw (k, rest_step s i h, ← is, child_some _ c e)
-
-      pub near_step : kid_of (last_of (leb (length s / size)) (children m)) ≡ Childless → Near s (i + 1)
+      pub near_found : (c : ℕ) → (last_of (leb (length s / size)) (children m)) ≡ Some c → Some (i, c) ≡ (far_child (alone (nodes_of s) []))
       unfolding first_some far_kid
-      near_step e = rw (k, rest_step s i h, ← is, childless_none _ e, add-one)
+      near_found c e = rw (k, rest_step s i h, ← is, e)
 
-    pub near_end : length s / size ≤ i → Nowhere ≡ far_of (far_child (alone (nodes_of s) []))
-    unfolding first_some far_of
+      pub near_step : (last_of (leb (length s / size)) (children m)) ≡ None → Near s (i + 1)
+      unfolding first_some far_kid
+      near_step e = rw (k, rest_step s i h, ← is, e, add-one)
+
+    pub near_end : length s / size ≤ i → None ≡ (far_child (alone (nodes_of s) []))
+    unfolding first_some
     near_end h = rw (k, rest_end s i h)

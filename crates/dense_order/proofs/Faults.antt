@@ -4,7 +4,7 @@ use Prim.Native.Nat.{ℕ, zero, suc, ◌+◌, ◌-◌, ◌/◌, ◌<◌, ◌≤�
 use mathlib.Core.Path.{◌≡◌, refl}
 use mathlib.Core.Bool.{Bool, true, false, not, ◌&&◌, ◌||◌}
 use mathlib.Core.List.{List, [], ◌∷◌}
-use Rattle.std.specs.Prelude.{Option, Some, None}
+use Rattle.std.specs.Prelude.{Option, Some, None, Ok, Err}
 use native.Mathlib.Omega.{arith}
 use native.Mathlib.Numerals.{add-one}
 use lib.Dec.{leb, ltb, eqb}
@@ -19,12 +19,9 @@ use Rattle.forest.specs.Lent.{when, naming, first}
 use Rattle.forest.specs.Validate.{forward, fault, faults, node_faults}
 use Rattle.forest.specs.declared.Reply.{Reply}
 use Rattle.forest.specs.declared.Reply.TheVariants.{ClassOrder, DigestOrder, ForwardReference}
-use Rattle.dense_order.specs.Found.{kid_of, check_of}
-use Rattle.dense_order.specs.declared.Kid.TheVariants.{Child, Childless}
-use Rattle.dense_order.specs.declared.Check.{Check}
-use Rattle.dense_order.specs.declared.Check.TheVariants.{Passed, Refused}
+use Rattle.dense_order.specs.Found.{Checked, check_of}
 use Rattle.dense_order.proofs.Gathering.{external_kind}
-use Rattle.dense_order.proofs.Options.{child_some, childless_none, refused_some, passed_none}
+use Rattle.dense_order.proofs.Options.{refused_some, passed_none}
 use Rattle.dense_order.proofs.Rest.{nodes_from, rest_all, rest_step, rest_end}
 
 -- ONE NODE ----------------------------------------------------------------------------------------
@@ -54,13 +51,13 @@ unfolding before
 rises_compared k z p q o e = rw (eq-eqb k 0 z, ← p, ← q, e)
 
 module _ (i : ℕ) {n m : Node} (a : n ≡ m) where
-  pub forward_child_lem : (c : ℕ) → kid_of (last_of (leb i) (children n)) ≡ Child c → Refused (ForwardReference i c) ≡ check_of (forward i m)
+  pub forward_child_lem : (c : ℕ) → (last_of (leb i) (children n)) ≡ Some c → Err (ForwardReference i c) ≡ check_of (forward i m)
   unfolding forward naming check_of
-  forward_child_lem c e = rw (← a, child_some _ c e)
+  forward_child_lem c e = rw (← a, e)
 
-  pub forward_none : kid_of (last_of (leb i) (children n)) ≡ Childless → Passed ≡ check_of (forward i m)
+  pub forward_none : (last_of (leb i) (children n)) ≡ None → (Ok tt) ≡ check_of (forward i m)
   unfolding forward naming check_of
-  forward_none e = rw (← a, childless_none _ e)
+  forward_none e = rw (← a, e)
 
 first_one : (o : Option Reply) → first (o ∷ []) ≡ o
 unfolding first
@@ -78,7 +75,7 @@ module _ (i : ℕ) (n m : Node) (k j : ℕ) (p : k ≡ m.kind) (q : j ≡ n.kind
   falls : ltb (rank (class m)) (rank (class n)) ≡ (ltb k 2 && ltb k j)
   falls = rw (p, q) (class_falls n m)
 
-  pub fault_class : (ltb k 2 && ltb k j) ≡ true → Refused (ClassOrder i) ≡ check_of (fault i n m)
+  pub fault_class : (ltb k 2 && ltb k j) ≡ true → Err (ClassOrder i) ≡ check_of (fault i n m)
   unfolding fault first when check_of
   fault_class h = rw (falls, h)
 
@@ -87,11 +84,11 @@ module _ (i : ℕ) (n m : Node) (k j : ℕ) (p : k ≡ m.kind) (q : j ≡ n.kind
     tested : (is_external m && (is_external n && not (before n.digest m.digest))) ≡ not b
     tested = rw (external_kind m, external_kind n, ← p, ← q, digest_test j k _ h, ← d)
 
-    pub fault_digest : b ≡ false → Refused (DigestOrder i) ≡ check_of (fault i n m)
+    pub fault_digest : b ≡ false → Err (DigestOrder i) ≡ check_of (fault i n m)
     unfolding fault first when check_of
     fault_digest e = rw (falls, h, tested, e)
 
-    pub fault_forward : (r : Check) → b ≡ true → r ≡ check_of (forward i m) → r ≡ check_of (fault i n m)
+    pub fault_forward : (r : Checked Unit) → b ≡ true → r ≡ check_of (forward i m) → r ≡ check_of (fault i n m)
     unfolding fault first when
     fault_forward r e f = rw (falls, h, tested, e, first_one (forward i m)) f
 
@@ -103,31 +100,31 @@ pub record Ordered (s : List ℕ) (i : ℕ) : Type 0 where
   pub pass : first (node_faults (nodes_of s)) ≡ first (faults i (node_at s (i - 1)) (nodes_from s i))
 
 module _ (s : List ℕ) where
-  pub none_ordered : length s / size ≤ 0 → Passed ≡ check_of (first (node_faults (nodes_of s)))
+  pub none_ordered : length s / size ≤ 0 → (Ok tt) ≡ check_of (first (node_faults (nodes_of s)))
   unfolding node_faults first check_of
   none_ordered h = rw (rest_all s, rest_end s 0 h)
 
   module _ (h : 0 < length s / size) where
-    pub first_refused : (r : Reply) → check_of (forward 0 (node_at s 0)) ≡ Refused r → Refused r ≡ check_of (first (node_faults (nodes_of s)))
+    pub first_refused : (r : Reply) → check_of (forward 0 (node_at s 0)) ≡ Err r → Err r ≡ check_of (first (node_faults (nodes_of s)))
     unfolding node_faults first check_of
     first_refused r e = rw (rest_all s, rest_step s 0 h, refused_some (forward 0 (node_at s 0)) r e)
 
-    pub first_ordered : check_of (forward 0 (node_at s 0)) ≡ Passed → Ordered s 1
+    pub first_ordered : check_of (forward 0 (node_at s 0)) ≡ (Ok tt) → Ordered s 1
     unfolding node_faults first
     first_ordered e = record { some = omega arith; pass = rw (rest_all s, rest_step s 0 h, passed_none (forward 0 (node_at s 0)) e) }
 
   module _ (i : ℕ) (k : Ordered s i) where
     module _ (h : i < length s / size) where
-      pub next_refused : (r : Reply) → check_of (fault i (node_at s (i - 1)) (node_at s i)) ≡ Refused r → Refused r ≡ check_of (first (node_faults (nodes_of s)))
+      pub next_refused : (r : Reply) → check_of (fault i (node_at s (i - 1)) (node_at s i)) ≡ Err r → Err r ≡ check_of (first (node_faults (nodes_of s)))
       unfolding faults first check_of
       next_refused r e = rw (k.pass, rest_step s i h, refused_some (fault i (node_at s (i - 1)) (node_at s i)) r e)
 
-      pub next_ordered : check_of (fault i (node_at s (i - 1)) (node_at s i)) ≡ Passed → Ordered s (i + 1)
+      pub next_ordered : check_of (fault i (node_at s (i - 1)) (node_at s i)) ≡ (Ok tt) → Ordered s (i + 1)
       unfolding faults first
       next_ordered e =
           let z : i + 1 - 1 ≡ i = omega arith in
           record { some = omega arith; pass = rw (k.pass, rest_step s i h, passed_none (fault i (node_at s (i - 1)) (node_at s i)) e, z, add-one) }
 
-    pub all_ordered : length s / size ≤ i → Passed ≡ check_of (first (node_faults (nodes_of s)))
+    pub all_ordered : length s / size ≤ i → (Ok tt) ≡ check_of (first (node_faults (nodes_of s)))
     unfolding faults first check_of
     all_ordered h = rw (k.pass, rest_end s i h)

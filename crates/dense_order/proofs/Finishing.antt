@@ -24,9 +24,7 @@ use Rattle.claims.specs.Distinct.{pigeonhole}
 use Rattle.claims.specs.Places.{lowest_passes}
 use Rattle.claims.specs.Releases.{begun_distinct, begun_in, length_order}
 use Rattle.claims.specs.Searches.{has_in, in_has, lowest_none, lowest_lt, lowest_agree, get_d_mem}
-use Rattle.room.specs.Places.{place_of}
 use Rattle.room.specs.Sections.{span, Out}
-use Rattle.room.specs.declared.Place.{Place}
 use Rattle.room.proofs.Spans.{span_length, span_at, span_join, span_same}
 use Rattle.sorting.specs.Promises.{Room, Sorts}
 use Rattle.sorting.specs.Digests.{less}
@@ -138,11 +136,11 @@ mark_has o p = go (lowest (eqb p) o) refl
         there : (i : ℕ) → lowest (eqb p) o ≡ Some i → Memᴰ p o
         there i e = rw (eqb-true p _ (lowest_passes (eqb p) o i 0 e)) (get_d_mem o i 0 (lowest_lt (eqb p) o i e))
 
-pub orders : {s w w₁ : List ℕ} {n filled : ℕ} {r : Place} → Released s w n filled → length w₁ ≡ length w → Marked w w₁ n filled
-    → r ≡ place_of (lowest (λ p. eqb (get_or w₁ (n + p) 0) 0) (run 0 n)) → Ordered s w₁ n r
+pub orders : {s w w₁ : List ℕ} {n filled : ℕ} {r : Option ℕ} → Released s w n filled → length w₁ ≡ length w → Marked w w₁ n filled
+    → r ≡ (lowest (λ p. eqb (get_or w₁ (n + p) 0) 0) (run 0 n)) → Ordered s w₁ n r
 unfolding unreleased ids
 orders {s} {w} {w₁} {n} {filled} {r} a l m e = record {
-  answer = e ∙ ap place_of lowest_is;
+  answer = e ∙ lowest_is;
   whole = λ u. whole_now u;
   marks = marks_now;
 }

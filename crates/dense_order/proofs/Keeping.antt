@@ -3,7 +3,7 @@
 use Prim.Native.Nat.{ℕ, suc, ◌+◌, ◌*◌, ◌/◌, ◌<◌, ◌≤◌}
 use mathlib.Core.Path.{◌≡◌, refl, ap, sym, ◌∙◌}
 use mathlib.Core.List.{List}
-use Rattle.std.specs.Prelude.{None}
+use Rattle.std.specs.Prelude.{None, Ok}
 use native.Mathlib.Decide.{ℕ_discrete}
 use native.Mathlib.Omega.{arith}
 use borrow.Author.Tests.{eq-eqb, ne_eqb}
@@ -24,7 +24,6 @@ use Rattle.claims.specs.Searches.{lowest_at}
 use Rattle.sorting.proofs.Uses.{run_at}
 use Rattle.room.specs.Sections.{span}
 use Rattle.room.proofs.Spans.{span_length, span_at}
-use Rattle.dense_order.specs.declared.Check.TheVariants.{Passed}
 use Rattle.dense_order.specs.Found.{check_of}
 use Rattle.dense_order.specs.Marks.{mark_of}
 use Rattle.dense_order.specs.Kinds.{Kept}
@@ -62,7 +61,7 @@ mark_run : (n p : ℕ) → p < n → mark_of (run 0 n) p ≡ suc p
 unfolding mark_of
 mark_run n p h = rw (mark_of, lowest_at (eqb p) 0 n p (λ x b. ne_eqb p x (omega arith)) (eq-eqb p (0 + p) (omega arith)) h)
 
-pub kept_answers : {s w v : List ℕ} {n : ℕ} → first (node_faults (nodes_of s)) ≡ None → n ≡ length s / size → 2 * n ≤ length v → Kept w v n n → Answers (disorders (nodes_of s)) s v n Passed
+pub kept_answers : {s w v : List ℕ} {n : ℕ} → first (node_faults (nodes_of s)) ≡ None → n ≡ length s / size → 2 * n ≤ length v → Kept w v n n → Answers (disorders (nodes_of s)) s v n (Ok tt)
 unfolding check_of ids
 kept_answers {s} {w} {v} {n} e c l k =
     let g = nodes_of s in

@@ -4,7 +4,7 @@ use Prim.Native.Nat.{ℕ, ◌+◌, ◌<◌, ◌≤◌}
 use mathlib.Core.Path.{◌≡◌}
 use mathlib.Core.Bool.{Bool, true, false, ◌&&◌}
 use mathlib.Core.List.{List, [], ◌∷◌, ◌++◌}
-use Rattle.std.specs.Prelude.{Some}
+use Rattle.std.specs.Prelude.{Some, None}
 use native.Mathlib.Omega.{arith}
 use native.Mathlib.Numerals.{add-one}
 use native.Mathlib.Decide.{dec_lt}
@@ -16,8 +16,6 @@ use Rattle.record.specs.Node.{children}
 use Rattle.record.specs.declared.Node.{Node}
 use Rattle.record.proofs.Basics.{both_true}
 use Rattle.forest.specs.Lists.{later, last_of}
-use Rattle.dense_order.specs.Found.{kid_of}
-use Rattle.dense_order.specs.declared.Kid.TheVariants.{Child, Childless}
 
 -- what is found in a list and one element more
 module _ (t : ℕ → Bool) where
@@ -47,8 +45,7 @@ module _ (n : Node) (low : ℕ) where
     more g =
         rw (add-one, take-suc (take n.count n.kids) i 0 (omega (arith, length-take n.count n.kids)), get_or-take n.count n.kids i 0 g)
 
-    pub among_found : (ltb i n.count && leb low (get_or n.kids i 0)) ≡ true → Child (get_or n.kids i 0) ≡ kid_of (last_of (leb low) (children n))
-    unfolding kid_of
+    pub among_found : (ltb i n.count && leb low (get_or n.kids i 0)) ≡ true → Some (get_or n.kids i 0) ≡ (last_of (leb low) (children n))
     among_found e =
         let (a, b) = both_true (ltb i n.count) (leb low (get_or n.kids i 0)) e in
         rw (k, l, more (ltb-true _ _ a), last_here (leb low) (take i (children n)) (get_or n.kids i 0) b)
@@ -65,6 +62,6 @@ module _ (n : Node) (low : ℕ) where
         past : n.count ≤ i → Among n low i
         past g = rw (take_all i (take n.count n.kids) (omega (arith, length-take n.count n.kids)))
 
-  pub among_end : (left : ℕ) → Among n low left → left ≤ 0 → Childless ≡ kid_of (last_of (leb low) (children n))
-  unfolding kid_of last_of
+  pub among_end : (left : ℕ) → Among n low left → left ≤ 0 → None ≡ (last_of (leb low) (children n))
+  unfolding last_of
   among_end left k h = let e : left ≡ 0 = omega arith in rw (k, e)

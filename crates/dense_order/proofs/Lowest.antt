@@ -9,8 +9,6 @@ use native.Mathlib.Omega.{arith}
 use lib.ListN.{length}
 use Rattle.record.specs.Node.{size, node_at, nodes_of, bad}
 use Rattle.forest.specs.Lists.{here_or, lowest}
-use Rattle.room.specs.Places.{place_of}
-use Rattle.room.specs.declared.Place.TheVariants.{At, Nothing}
 use Rattle.dense_order.proofs.Rest.{nodes_from, rest_all, rest_step, rest_end}
 
 -- a place that was found counting from i
@@ -41,7 +39,7 @@ module _ (s : List ℕ) where
   seeking_start = rw (rest_all s) (further_zero (lowest bad (nodes_from s 0)))
 
   module _ (i : ℕ) (k : Seeking s i) where
-    pub seeking_found : i < length s / size → bad (node_at s i) ≡ true → At i ≡ place_of (lowest bad (nodes_of s))
+    pub seeking_found : i < length s / size → bad (node_at s i) ≡ true → Some i ≡ (lowest bad (nodes_of s))
     unfolding lowest
     seeking_found h e = rw (k, rest_step s i h, e, further_here i (lowest bad (nodes_from s (i + 1))))
 
@@ -49,6 +47,6 @@ module _ (s : List ℕ) where
     unfolding lowest
     seeking_step h e = rw (k, rest_step s i h, e) (further_there i (lowest bad (nodes_from s (i + 1))))
 
-    pub seeking_end : length s / size ≤ i → Nothing ≡ place_of (lowest bad (nodes_of s))
+    pub seeking_end : length s / size ≤ i → None ≡ (lowest bad (nodes_of s))
     unfolding lowest further
     seeking_end h = rw (k, rest_end s i h)

@@ -3,7 +3,7 @@
 use Prim.Native.Nat.{ℕ, ◌/◌, ◌%◌, ◌<◌, ◌≤◌}
 use mathlib.Core.Path.{◌≡◌, refl, sym, ◌∙◌, ap}
 use mathlib.Core.List.{List, [], ◌∷◌}
-use Rattle.std.specs.Prelude.{Option, Some, None}
+use Rattle.std.specs.Prelude.{Option, Some, None, Ok, Err}
 use borrow.Author.Tests.{lt-ltb, le-ltb, eq-eqb, ne_eqb}
 use lib.ListN.{length}
 use Rattle.record.specs.Node.{size, nodes_of, bad}
@@ -12,12 +12,7 @@ use Rattle.forest.specs.Lent.{most, when, naming, first}
 use Rattle.forest.specs.Validate.{bad_record, node_faults, validate_refusals, or_accepted, validate}
 use Rattle.forest.specs.declared.Reply.{Reply}
 use Rattle.forest.specs.declared.Reply.TheVariants.{Accepted, BadBuffers, TooMany, BadRecord}
-use Rattle.dense_order.specs.Found.{check_of}
-use Rattle.room.specs.Places.{place_of}
-use Rattle.room.specs.declared.Place.TheVariants.{At, Nothing}
-use Rattle.room.proofs.Answers.{at_some, nothing_none}
-use Rattle.dense_order.specs.declared.Check.{Check}
-use Rattle.dense_order.specs.declared.Check.TheVariants.{Passed, Refused}
+use Rattle.dense_order.specs.Found.{Checked, check_of}
 use Rattle.dense_order.proofs.Options.{refused_some, passed_none}
 
 -- WHAT IS SAID OF THE RECORDS ---------------------------------------------------------------------
@@ -30,23 +25,23 @@ stands_for (Some q) os r e = refl
 
 module _ (b : List ℕ) where
   -- the lowest bad record goes before all else
-  pub record_bad : (i : ℕ) (os : List (Option Reply)) → place_of (lowest bad (nodes_of b)) ≡ At i → Refused (BadRecord i) ≡ check_of (first (bad_record b ∷ os))
+  pub record_bad : (i : ℕ) (os : List (Option Reply)) → (lowest bad (nodes_of b)) ≡ Some i → Err (BadRecord i) ≡ check_of (first (bad_record b ∷ os))
   unfolding bad_record naming first check_of
-  record_bad i os e = rw (at_some (lowest bad (nodes_of b)) _ i refl e)
+  record_bad i os e = rw ((sym refl ∙ e))
 
-  no_bad : (os : List (Option Reply)) → place_of (lowest bad (nodes_of b)) ≡ Nothing → first (bad_record b ∷ os) ≡ first os
+  no_bad : (os : List (Option Reply)) → (lowest bad (nodes_of b)) ≡ None → first (bad_record b ∷ os) ≡ first os
   unfolding bad_record naming first
-  no_bad os e = rw (nothing_none (lowest bad (nodes_of b)) _ refl e)
+  no_bad os e = rw ((sym refl ∙ e))
 
-  pub found_refused : (r : Reply) → place_of (lowest bad (nodes_of b)) ≡ Nothing → Refused r ≡ check_of (first (bad_record b ∷ Some r ∷ []))
+  pub found_refused : (r : Reply) → (lowest bad (nodes_of b)) ≡ None → Err r ≡ check_of (first (bad_record b ∷ Some r ∷ []))
   unfolding first check_of
   found_refused r e = rw (no_bad (Some r ∷ []) e)
 
-  pub order_refused : (r : Reply) (k : Check) → Refused r ≡ check_of (first (node_faults (nodes_of b))) → k ≡ check_of (first (bad_record b ∷ Some r ∷ []))
+  pub order_refused : (r : Reply) (k : Checked Unit) → Err r ≡ check_of (first (node_faults (nodes_of b))) → k ≡ check_of (first (bad_record b ∷ Some r ∷ []))
       → k ≡ check_of (first (bad_record b ∷ node_faults (nodes_of b)))
   order_refused r k e f = f ∙ ap check_of (stands_for (bad_record b) (node_faults (nodes_of b)) r (refused_some _ r (sym e)))
 
-  pub both_passed : place_of (lowest bad (nodes_of b)) ≡ Nothing → Passed ≡ check_of (first (node_faults (nodes_of b))) → Passed ≡ check_of (first (bad_record b ∷ node_faults (nodes_of b)))
+  pub both_passed : (lowest bad (nodes_of b)) ≡ None → (Ok tt) ≡ check_of (first (node_faults (nodes_of b))) → (Ok tt) ≡ check_of (first (bad_record b ∷ node_faults (nodes_of b)))
   both_passed e f = rw (no_bad (node_faults (nodes_of b)) e) f
 
 -- VALIDATE ----------------------------------------------------------------------------------------
@@ -66,10 +61,10 @@ module _ (b : List ℕ) where
       unfolding validate validate_refusals when first
       checked = rw (le-ltb most (length b / size) few, eq-eqb (length b % size) 0 whole)
 
-      pub records_refused : (r : Reply) → check_of (first (bad_record b ∷ node_faults (nodes_of b))) ≡ Refused r → r ≡ validate b
+      pub records_refused : (r : Reply) → check_of (first (bad_record b ∷ node_faults (nodes_of b))) ≡ Err r → r ≡ validate b
       unfolding or_accepted
       records_refused r e = rw (checked, refused_some (first (bad_record b ∷ node_faults (nodes_of b))) r e)
 
-      pub records_passed : check_of (first (bad_record b ∷ node_faults (nodes_of b))) ≡ Passed → Accepted (length b / size) 0 ≡ validate b
+      pub records_passed : check_of (first (bad_record b ∷ node_faults (nodes_of b))) ≡ (Ok tt) → Accepted (length b / size) 0 ≡ validate b
       unfolding or_accepted
       records_passed e = rw (checked, passed_none (first (bad_record b ∷ node_faults (nodes_of b))) e)

@@ -4,7 +4,7 @@ use Prim.Native.Nat.{ℕ, ◌+◌, ◌-◌, ◌/◌, ◌<◌, ◌≤◌}
 use mathlib.Core.Path.{◌≡◌, refl, ◌∙◌}
 use mathlib.Core.Bool.{true, false}
 use mathlib.Core.List.{List, ◌∷◌}
-use Rattle.std.specs.Prelude.{Some}
+use Rattle.std.specs.Prelude.{Some, None}
 use native.Mathlib.Omega.{arith}
 use native.Mathlib.Decide.{dec_lt}
 use lib.ListN.{length, get_or}
@@ -14,8 +14,6 @@ use Rattle.record.specs.declared.Node.{Node}
 use Rattle.forest.specs.Graph.{at}
 use Rattle.forest.specs.Order.{repeat}
 use Rattle.room.specs.Sections.{span}
-use Rattle.room.specs.Places.{place_of}
-use Rattle.room.specs.declared.Place.TheVariants.{At, Nothing}
 use Rattle.room.proofs.Spans.{span_empty, span_next}
 use Rattle.sorting.specs.Digests.{digest, holds}
 use Rattle.sorting.specs.Promises.{Listed}
@@ -58,7 +56,7 @@ module _ (s w : List ℕ) (count : ℕ) where
           unfolding holds
           compared = rw (at_node_lem s (get_or w (i - 1) 0) (numbered (i - 1) (omega arith)), at_node_lem s (get_or w i 0) (numbered i h), is)
 
-          pub unlike_found : holds s d (get_or w i 0) ≡ true → At (get_or w i 0) ≡ place_of (repeat (nodes_of s) (span w 0 count))
+          pub unlike_found : holds s d (get_or w i 0) ≡ true → Some (get_or w i 0) ≡ (repeat (nodes_of s) (span w 0 count))
           unlike_found e = rw (k, two, alike (nodes_of s) _ _ _ (compared ∙ e))
 
           pub unlike_step : holds s d (get_or w i 0) ≡ false → Unlike s w count (i + 1)
@@ -66,12 +64,12 @@ module _ (s w : List ℕ) (count : ℕ) where
               let z : i + 1 - 1 ≡ i = omega arith in
               rw (k, two, differing (nodes_of s) _ _ _ (compared ∙ e), z, span_next w i count h (omega arith))
 
-      pub unlike_end : count ≤ i → Nothing ≡ place_of (repeat (nodes_of s) (span w 0 count))
+      pub unlike_end : count ≤ i → None ≡ (repeat (nodes_of s) (span w 0 count))
       unfolding repeat
       unlike_end h = elim (dec_lt (i - 1) count) [ yes q ↦ one q | no q ↦ nil (omega arith) ]
         where
-          one : i - 1 < count → Nothing ≡ place_of (repeat (nodes_of s) (span w 0 count))
+          one : i - 1 < count → None ≡ (repeat (nodes_of s) (span w 0 count))
           one q = rw (k, span_next w (i - 1) count q (omega arith), span_empty w (i - 1 + 1) count (omega arith))
 
-          nil : count ≤ i - 1 → Nothing ≡ place_of (repeat (nodes_of s) (span w 0 count))
+          nil : count ≤ i - 1 → None ≡ (repeat (nodes_of s) (span w 0 count))
           nil q = rw (k, span_empty w (i - 1) count q)

@@ -1,5 +1,6 @@
 -- Laws of a loop that seeks the lowest place of a root at or past n.
 -- Assumes nothing.
+use Rattle.std.specs.Prelude.{Some, None}
 use Prim.Native.Nat.{ℕ, ◌+◌, ◌<◌, ◌≤◌}
 use mathlib.Core.Path.{◌≡◌}
 use mathlib.Core.Bool.{not}
@@ -14,8 +15,6 @@ use Rattle.record.specs.declared.Node.{Node}
 use Rattle.forest.specs.Lists.{lowest}
 use Rattle.forest.specs.Graph.{far_root}
 use Rattle.forest.specs.Canonicalize.{alone}
-use Rattle.room.specs.Places.{place_of}
-use Rattle.room.specs.declared.Place.TheVariants.{At, Nothing}
 use Rattle.dense_order.proofs.Lowest.{further, further_zero, further_here, further_there}
 
 -- of one forest: the lowest place of a root that is not below the number of nodes
@@ -32,7 +31,7 @@ module _ (rs : List ℕ) (n : ℕ) where
   inside_start = further_zero (lowest not (map (λ x. ltb x n) rs))
 
   module _ (i : ℕ) (k : Inside rs n i) where
-    pub inside_found : i < length rs → n ≤ get_or rs i 0 → At i ≡ place_of (lowest not (map (λ x. ltb x n) rs))
+    pub inside_found : i < length rs → n ≤ get_or rs i 0 → Some i ≡ (lowest not (map (λ x. ltb x n) rs))
     unfolding lowest
     inside_found h e = rw (k, drop-cons rs i 0 h, le-ltb (get_or rs i 0) n e, further_here i _)
 
@@ -40,6 +39,6 @@ module _ (rs : List ℕ) (n : ℕ) where
     unfolding lowest
     inside_step h e = rw (k, drop-cons rs i 0 h, lt-ltb (get_or rs i 0) n e, further_there i _, add-one)
 
-    pub inside_end : length rs ≤ i → Nothing ≡ place_of (lowest not (map (λ x. ltb x n) rs))
+    pub inside_end : length rs ≤ i → None ≡ (lowest not (map (λ x. ltb x n) rs))
     unfolding lowest further
     inside_end h = rw (k, drop_of_length-le rs h)

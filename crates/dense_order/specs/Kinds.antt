@@ -1,14 +1,12 @@
 -- Listing the ids of one kind, and what the order holds before any internal.
 -- Assumes nothing: these are definitions.
-use Rattle.std.specs.Prelude.{ℕ, suc, ◌+◌, ◌*◌, ◌/◌, ◌<◌, ◌≤◌, ◌≡◌, List, eqb, length, get_or, None}
+use Rattle.std.specs.Prelude.{ℕ, suc, ◌+◌, ◌*◌, ◌/◌, ◌<◌, ◌≤◌, ◌≡◌, List, eqb, length, get_or, None, Option}
 use Rattle.record.specs.Lists.{run}
 use Rattle.record.specs.Node.{size, node_at, nodes_of}
 use Rattle.forest.specs.Lent.{work_words, most}
 use Rattle.forest.specs.Lists.{keep}
 use Rattle.forest.specs.Order.{externals, order, unreleased}
-use Rattle.room.specs.Places.{place_of}
 use Rattle.room.specs.Sections.{span, Out, Puts}
-use Rattle.room.specs.declared.Place.{Place}
 use Rattle.dense_order.specs.Marks.{mark_of}
 
 -- the ids of the records of kind k, in their order
@@ -47,7 +45,7 @@ pub record Kept (w w' : List ℕ) (n k : ℕ) : Type 0 where
   pub rest : (y : ℕ) → Out y 0 k → Out y n k → get_or w' y 0 ≡ get_or w y 0
 
 -- the answer names the lowest id that is never released; if there is none, the order is whole and each id's place is marked
-pub record Ordered (s w : List ℕ) (n : ℕ) (r : Place) : Type 0 where
-  pub answer : r ≡ place_of (unreleased (nodes_of s))
+pub record Ordered (s w : List ℕ) (n : ℕ) (r : Option ℕ) : Type 0 where
+  pub answer : r ≡ unreleased (nodes_of s)
   pub whole : unreleased (nodes_of s) ≡ None → span w 0 n ≡ order (nodes_of s)
   pub marks : (p : ℕ) → p < n → get_or w (n + p) 0 ≡ mark_of (order (nodes_of s)) p

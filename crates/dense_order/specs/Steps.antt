@@ -10,9 +10,8 @@ use Rattle.forest.specs.Validate.{bad_record}
 use Rattle.forest.specs.declared.Reply.{Reply}
 use Rattle.forest.specs.declared.Reply.TheVariants.{BadBuffers, TooMany}
 use Rattle.room.specs.Sections.{span}
-use Rattle.dense_order.specs.Found.{check_of}
+use Rattle.dense_order.specs.Found.{Checked, check_of}
 use Rattle.dense_order.specs.Marks.{mark_of}
-use Rattle.dense_order.specs.declared.Check.{Check}
 
 -- the checks of sizes, by the buffers' lengths: 2, 1
 unfoldable pub size_checks : ℕ → ℕ → ℕ → ℕ → ℕ → ℕ → List (Option Reply)
@@ -41,7 +40,7 @@ pub record Arranged (s w : List ℕ) (n : ℕ) : Type 0 where
   pub marks : (p : ℕ) → p < n → get_or w (n + p) 0 ≡ mark_of (order (nodes_of s)) p
 
 -- the answer to the checks os; if none refuses, the forest is arranged in the room
-pub record Answers (os : List (Option Reply)) (s w : List ℕ) (n : ℕ) (r : Check) : Type 0 where
+pub record Answers (os : List (Option Reply)) (s w : List ℕ) (n : ℕ) (r : Checked Unit) : Type 0 where
   pub answer : r ≡ check_of (first os)
   pub arranged : first os ≡ None → Arranged s w n
 

@@ -6,12 +6,10 @@ ghost use Rattle.record.specs.Lists.{run, flat};
 ghost use Rattle.record.specs.Node.{size, fields, node_at, node_bytes, children, renumber};
 ghost use Rattle.forest.specs.Lists.{lowest};
 ghost use Rattle.room.specs.Sections.{span};
-ghost use Rattle.room.specs.Places.{place_of};
 ghost use Rattle.dense_order.specs.Marks.{new_id, Placed, Unmarked, Marked, Writable};
 ghost use Rattle.dense_order.specs.Steps.{Deliverable, Delivered};
 
 use record::{FIELDS, Node};
-use room::Place;
 
 // Marks the place of each of the first `filled` ids of the order; leaves every word but the n marks alone.
 pub(crate) fn mark_places(work: &mut [u32], n: usize, filled: usize)
@@ -26,18 +24,18 @@ pub(crate) fn mark_places(work: &mut [u32], n: usize, filled: usize)
 }
 
 // The lowest id without a place.
-pub(crate) fn first_unplaced(work: &[u32], n: usize) -> Place
+pub(crate) fn first_unplaced(work: &[u32], n: usize) -> Option<usize>
     requires { 2 * n ≤ length work.now }
-    ensures { result ≡ place_of (lowest (λ p. eqb (get_or work.now (n + p) 0) 0) (run 0 n)) }
+    ensures { result ≡ lowest (λ p. eqb (get_or work.now (n + p) 0) 0) (run 0 n) }
 {
     let mut p = 0;
     while p < n {
         if work[n + p] == 0 {
-            return Place::At(p);
+            return Some(p);
         }
         p += 1;
     }
-    Place::Nothing
+    None
 }
 
 // The new id of c: 1 less than its mark.

@@ -8,14 +8,12 @@ ghost use Rattle.forest.specs.Lists.{lowest, last_of};
 ghost use Rattle.forest.specs.Lent.{first};
 ghost use Rattle.forest.specs.Validate.{bad_record, forward as forward_of, fault as fault_of, node_faults, validate as validated};
 ghost use Rattle.forest.specs.Canonicalize.{disorders, canonicalize as canonicalized};
-ghost use Rattle.room.specs.Places.{place_of};
 ghost use Rattle.dense_order.specs.Found.{kid_of, check_of};
 ghost use Rattle.dense_order.specs.Kinds.{Blank};
 ghost use Rattle.dense_order.specs.Steps.{size_checks, forest_checks, Fitting, Answers};
 
 use forest::Reply;
 use record::{Node, Order};
-use room::Place;
 
 mod deliver;
 mod order;
@@ -34,45 +32,24 @@ const BLOCK: u32 = 1;
 
 const INTERNAL: u32 = 2;
 
-// A child of a node.
-#[derive(Clone, Copy)]
-pub enum Kid {
-    Child(u32),
-    Childless,
-}
-
-// A node and a child of it past the end.
-#[derive(Clone, Copy)]
-pub enum Far {
-    At(usize, u32),
-    Nowhere,
-}
-
-// What a check says.
-#[derive(Clone, Copy)]
-pub enum Check {
-    Passed,
-    Refused(Reply),
-}
-
 // The lowest bad record of the whole ones: a part of a record at the end does not matter.
-pub fn first_bad(nodes: &[u8]) -> Place
-    ensures { result ≡ place_of (lowest bad (nodes_of nodes.now)) }
+pub fn first_bad(nodes: &[u8]) -> Option<usize>
+    ensures { result ≡ lowest bad (nodes_of nodes.now) }
 {
     let n = nodes.len() / record::SIZE;
     let mut i = 0;
     while i < n {
         if record::bad(record::node_at(nodes, i)) {
-            return Place::At(i);
+            return Some(i);
         }
         i += 1;
     }
-    Place::Nothing
+    None
 }
 
 // The last child of a node that is at or above `low`.
-pub fn last_from(n: Node, low: usize) -> Kid
-    ensures { result ≡ kid_of (last_of (leb low) (children n)) }
+pub fn last_from(n: Node, low: usize) -> Option<u32>
+    ensures { result ≡ last_of (leb low) (children n) }
 {
     let kids = n.kids;
     let mut left = record::FIELDS;
@@ -80,17 +57,17 @@ pub fn last_from(n: Node, low: usize) -> Kid
         let i = left - 1;
         let kid = kids[i];
         if (i < n.count as usize) & (low <= kid as usize) {
-            return Kid::Child(kid);
+            return Some(kid);
         }
         left -= 1;
     }
-    Kid::Childless
+    None
 }
 
 // Whether record `i` is no external, or has a digest above that of the record before it.
 fn digest_rises(nodes: &[u8], i: usize, kind: u32) -> bool
     requires { (1 ≤ i) × (size * i + size ≤ length nodes.now) }
-    ensures { result ≡ (not (eqb kind 0) || before (node_at nodes.now (i - 1)).digest (node_at nodes.now i).digest) }
+    ensures { result ≡ not (eqb kind 0) || before (node_at nodes.now (i - 1)).digest (node_at nodes.now i).digest }
 {
     if kind != EXTERNAL {
         return true;
@@ -106,20 +83,19 @@ fn digest_rises(nodes: &[u8], i: usize, kind: u32) -> bool
 }
 
 // Refuses record `i` for its last child that is not below it.
-fn forward(nodes: &[u8], i: usize) -> Check
+fn forward(nodes: &[u8], i: usize) -> Result<(), Reply>
     requires { size * i + size ≤ length nodes.now }
     ensures { result ≡ check_of (forward_of i (node_at nodes.now i)) }
 {
     let node = record::node_at(nodes, i);
-    let forward_child = last_from(node, i);
-    match forward_child {
-        Kid::Child(child) => Check::Refused(Reply::ForwardReference(i as u64, child as u64)),
-        Kid::Childless => Check::Passed,
+    match last_from(node, i) {
+        Some(child) => Err(Reply::ForwardReference(i as u64, child as u64)),
+        None => Ok(()),
     }
 }
 
 // Refuses record `i` for what is wrong with it first, after the record before it.
-fn fault(nodes: &[u8], i: usize) -> Check
+fn fault(nodes: &[u8], i: usize) -> Result<(), Reply>
     requires { (1 ≤ i) × (size * i + size ≤ length nodes.now) }
     ensures { result ≡ check_of (fault_of i (node_at nodes.now (i - 1)) (node_at nodes.now i)) }
 {
@@ -127,70 +103,64 @@ fn fault(nodes: &[u8], i: usize) -> Check
     let kind = record::kind_at(nodes, i);
     // The kinds tell how the classes stand, but for two internals.
     if (kind < INTERNAL) & (kind < previous_kind) {
-        return Check::Refused(Reply::ClassOrder(i as u64));
+        return Err(Reply::ClassOrder(i as u64));
     }
     if !digest_rises(nodes, i, kind) {
-        return Check::Refused(Reply::DigestOrder(i as u64));
+        return Err(Reply::DigestOrder(i as u64));
     }
     forward(nodes, i)
 }
 
 // Refuses the first of the whole records that is not in dense order.
-fn validate_dense_node_order(nodes: &[u8]) -> Check
+fn validate_dense_node_order(nodes: &[u8]) -> Result<(), Reply>
     ensures { result ≡ check_of (first (node_faults (nodes_of nodes.now))) }
 {
     let n = nodes.len() / record::SIZE;
     if n == 0 {
-        return Check::Passed;
+        return Ok(());
     }
-    if let Check::Refused(reply) = forward(nodes, 0) {
-        return Check::Refused(reply);
+    forward(nodes, 0)?;
+    for i in 1..n {
+        fault(nodes, i)?;
     }
-    let mut i = 1;
-    while i < n {
-        if let Check::Refused(reply) = fault(nodes, i) {
-            return Check::Refused(reply);
-        }
-        i += 1;
-    }
-    Check::Passed
+    Ok(())
 }
 
 // Refuses the lowest bad record, which goes before whatever else was found, or else with `reply`.
-fn bad_first(nodes: &[u8], reply: Reply) -> Check
+fn bad_first(nodes: &[u8], reply: Reply) -> Result<(), Reply>
     ensures { result ≡ check_of (first (bad_record nodes.now ∷ Some reply ∷ [])) }
 {
-    if let Place::At(lowest) = first_bad(nodes) {
-        return Check::Refused(Reply::BadRecord(lowest as u64));
+    if let Some(lowest) = first_bad(nodes) {
+        return Err(Reply::BadRecord(lowest as u64));
     }
-    Check::Refused(reply)
+    Err(reply)
 }
 
 // Refuses the lowest bad record, or else the first of the whole records that is not in dense order: in one pass, if none is refused.
-fn validate_records(nodes: &[u8]) -> Check
+fn validate_records(nodes: &[u8]) -> Result<(), Reply>
     ensures { result ≡ check_of (first (bad_record nodes.now ∷ node_faults (nodes_of nodes.now))) }
 {
     let n = nodes.len() / record::SIZE;
     if n == 0 {
-        return Check::Passed;
+        return Ok(());
     }
-    if let Check::Refused(reply) = forward(nodes, 0) {
+    if let Err(reply) = forward(nodes, 0) {
         return bad_first(nodes, reply);
     }
     if record::bad(record::node_at(nodes, 0)) {
-        return Check::Refused(Reply::BadRecord(0));
+        return Err(Reply::BadRecord(0));
     }
     let mut i = 1;
     while i < n {
         if record::bad(record::node_at(nodes, i)) {
-            return Check::Refused(Reply::BadRecord(i as u64));
+            return Err(Reply::BadRecord(i as u64));
         }
-        if let Check::Refused(reply) = fault(nodes, i) {
+        if let Err(reply) = fault(nodes, i) {
             return bad_first(nodes, reply);
         }
         i += 1;
     }
-    Check::Passed
+    Ok(())
 }
 
 // Whether node records stand in dense order: too many, a part of a record, a bad record, then node by node.
@@ -204,7 +174,7 @@ pub fn validate(nodes: &[u8]) -> Reply
     if nodes.len() % record::SIZE != 0 {
         return Reply::BadBuffers(2);
     }
-    if let Check::Refused(reply) = validate_records(nodes) {
+    if let Err(reply) = validate_records(nodes) {
         return reply;
     }
     Reply::Accepted(n as u64, 0)
@@ -218,74 +188,73 @@ fn sizes(
     starts: usize,
     ids: usize,
     work: usize,
-) -> Check
+) -> Result<(), Reply>
     ensures { result ≡ check_of (first (size_checks nodes roots records starts ids work)) }
 {
     let n = nodes / record::SIZE;
     if (MOST < n) | (MOST < roots) {
-        return Check::Refused(Reply::TooMany);
+        return Err(Reply::TooMany);
     }
     if nodes % record::SIZE != 0 {
-        return Check::Refused(Reply::BadBuffers(2));
+        return Err(Reply::BadBuffers(2));
     }
     if records != nodes {
-        return Check::Refused(Reply::BadBuffers(4));
+        return Err(Reply::BadBuffers(4));
     }
     if starts != roots {
-        return Check::Refused(Reply::BadBuffers(5));
+        return Err(Reply::BadBuffers(5));
     }
     if ids != n {
-        return Check::Refused(Reply::BadBuffers(6));
+        return Err(Reply::BadBuffers(6));
     }
     if work < WORK_WORDS * n {
-        return Check::Refused(Reply::BadBuffers(7));
+        return Err(Reply::BadBuffers(7));
     }
-    Check::Passed
+    Ok(())
 }
 
 // Arranges a forest in a room of zeros, unless two externals have one digest, a child is past the end, or an internal is never released.
-fn rearranged(nodes: &[u8], work: &mut [u32], n: usize) -> Check
+fn rearranged(nodes: &[u8], work: &mut [u32], n: usize) -> Result<(), Reply>
     requires blank { Blank nodes.now work.old n }
     requires nodes_value { bad_record nodes.now ≡ None }
     ensures { Answers (disorders (nodes_of nodes.now)) nodes.now work.new n result }
 {
     let externals = order::list_externals(nodes, work, n);
-    if let Place::At(p) = ranges::repeated(nodes, work, externals) {
-        return Check::Refused(Reply::DuplicateExternal(p as u64));
+    if let Some(p) = ranges::repeated(nodes, work, externals) {
+        return Err(Reply::DuplicateExternal(p as u64));
     }
-    if let Far::At(p, child) = ranges::far_child(nodes) {
-        return Check::Refused(Reply::ChildRange(p as u64, child as u64));
+    if let Some((p, child)) = ranges::far_child(nodes) {
+        return Err(Reply::ChildRange(p as u64, child as u64));
     }
-    if let Place::At(p) = order::final_dense_node_order(nodes, work, n, externals) {
-        return Check::Refused(Reply::Cycle(p as u64));
+    if let Some(p) = order::final_dense_node_order(nodes, work, n, externals) {
+        return Err(Reply::Cycle(p as u64));
     }
-    Check::Passed
+    Ok(())
 }
 
 // Arranges a forest in a room of zeros as `rearranged` does: one in dense order stays as it is.
-fn arranged(nodes: &[u8], work: &mut [u32], n: usize) -> Check
+fn arranged(nodes: &[u8], work: &mut [u32], n: usize) -> Result<(), Reply>
     requires blank { Blank nodes.now work.old n }
     requires nodes_value { bad_record nodes.now ≡ None }
     ensures { Answers (disorders (nodes_of nodes.now)) nodes.now work.new n result }
 {
-    let order = validate_dense_node_order(nodes);
-    let Check::Passed = order else {
+    if validate_dense_node_order(nodes).is_err() {
         return rearranged(nodes, work, n);
-    };
+    }
     order::keep_order(work, n);
-    Check::Passed
+    Ok(())
 }
 
 // Arranges a forest in the room, unless a record is bad, a root past the end, or the forest has no order.
-fn examined(nodes: &[u8], roots: &[u32], work: &mut [u32], n: usize) -> Check
+fn examined(nodes: &[u8], roots: &[u32], work: &mut [u32], n: usize) -> Result<(), Reply>
     requires { Fitting nodes.now work.old n }
     ensures { Answers (forest_checks nodes.now roots.now) nodes.now work.new n result }
 {
-    if let Place::At(p) = first_bad(nodes) {
-        return Check::Refused(Reply::BadRecord(p as u64));
+    if let Some(p) = first_bad(nodes) {
+        return Err(Reply::BadRecord(p as u64));
     }
-    if let Place::At(i) = ranges::far_root(roots, n) {
-        return Check::Refused(Reply::RootRange(i as u64));
+    if let Some(i) = ranges::far_root(roots, n) {
+        return Err(Reply::RootRange(i as u64));
     }
     room::clear(work);
     arranged(nodes, work, n)
@@ -309,7 +278,7 @@ pub fn canonicalize(
         } }
 {
     let n = nodes.len() / record::SIZE;
-    if let Check::Refused(reply) = sizes(
+    if let Err(reply) = sizes(
         nodes.len(),
         roots.len(),
         node_out.len(),
@@ -319,7 +288,7 @@ pub fn canonicalize(
     ) {
         return reply;
     }
-    if let Check::Refused(reply) = examined(nodes, roots, work, n) {
+    if let Err(reply) = examined(nodes, roots, work, n) {
         room::clear(work);
         return reply;
     }

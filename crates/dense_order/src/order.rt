@@ -10,7 +10,6 @@ ghost use Rattle.dense_order.specs.State.{Fair, counts_at, ready_at, Standing, R
 
 use crate::{BLOCK, EXTERNAL, INTERNAL, deliver};
 use record::FIELDS;
-use room::Place;
 
 // The sections of the work room, of n words each: the order from 0 on, the marks from n on, then these. The tree has two, the links one a
 // child field.
@@ -113,7 +112,7 @@ fn release(nodes: &[u8], work: &mut [u32], n: usize, begun: usize) -> usize
     let mut filled = begun;
     while filled < n {
         let found = ready::lowest(work, READY * n, n);
-        let Place::At(p) = found else {
+        let Some(p) = found else {
             return filled;
         };
         append(nodes, work, n, filled, p);
@@ -184,7 +183,7 @@ fn begin(nodes: &[u8], work: &mut [u32], n: usize, externals: usize) -> usize
 }
 
 // Releases the internals and marks the place of each id; answers the lowest id that is never released.
-fn finish(nodes: &[u8], work: &mut [u32], n: usize, begun: usize) -> Place
+fn finish(nodes: &[u8], work: &mut [u32], n: usize, begun: usize) -> Option<usize>
     requires { Begun nodes.now work.old n begun }
     ensures { Ordered nodes.now work.new n result }
 {
@@ -212,7 +211,7 @@ pub(crate) fn final_dense_node_order(
     work: &mut [u32],
     n: usize,
     externals: usize,
-) -> Place
+) -> Option<usize>
     requires fair { Fair nodes.now n }
     requires n_in_bounds { work_words * n ≤ length work.old }
     requires externals { Externals nodes.now work.old n externals }

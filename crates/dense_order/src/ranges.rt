@@ -6,48 +6,44 @@ ghost use Rattle.forest.specs.Graph.{far_child};
 ghost use Rattle.forest.specs.Order.{repeat};
 ghost use Rattle.forest.specs.Canonicalize.{alone};
 ghost use Rattle.room.specs.Sections.{span};
-ghost use Rattle.room.specs.Places.{place_of};
 ghost use Rattle.sorting.specs.Promises.{Listed};
 ghost use Rattle.dense_order.specs.Found.{far_of};
 
-use crate::{Far, Kid};
-use room::Place;
-
 // The lowest place of a root at or past n.
-pub(crate) fn far_root(roots: &[u32], n: usize) -> Place
-    ensures { result ≡ place_of (lowest not (map (λ x. ltb x n) roots.now)) }
+pub(crate) fn far_root(roots: &[u32], n: usize) -> Option<usize>
+    ensures { result ≡ lowest not (map (λ x. ltb x n) roots.now) }
 {
     let mut i = 0;
     while i < roots.len() {
         if n <= roots[i] as usize {
-            return Place::At(i);
+            return Some(i);
         }
         i += 1;
     }
-    Place::Nothing
+    None
 }
 
 // The first node with a child past the whole records, and its last such child: a part of a record at the end does not matter.
-pub(crate) fn far_child(nodes: &[u8]) -> Far
-    ensures { result ≡ far_of (far_child (alone (nodes_of nodes.now) [])) }
+pub(crate) fn far_child(nodes: &[u8]) -> Option<(usize, u32)>
+    ensures { result ≡ far_child (alone (nodes_of nodes.now) []) }
 {
     let n = nodes.len() / record::SIZE;
     let mut i = 0;
     while i < n {
         let node = record::node_at(nodes, i);
-        if let Kid::Child(child) = crate::last_from(node, n) {
-            return Far::At(i, child);
+        if let Some(child) = crate::last_from(node, n) {
+            return Some((i, child));
         }
         i += 1;
     }
-    Far::Nowhere
+    None
 }
 
 // The second of the first two neighbours of one digest among the first `count` words: what stands behind them does not matter.
-pub(crate) fn repeated(nodes: &[u8], work: &[u32], count: usize) -> Place
+pub(crate) fn repeated(nodes: &[u8], work: &[u32], count: usize) -> Option<usize>
     requires count_in_bounds { count ≤ length work.now }
     requires listed { Listed nodes.now (span work.now 0 count) }
-    ensures { result ≡ place_of (repeat (nodes_of nodes.now) (span work.now 0 count)) }
+    ensures { result ≡ repeat (nodes_of nodes.now) (span work.now 0 count) }
 {
     let mut i = 1;
     while i < count {
@@ -55,9 +51,9 @@ pub(crate) fn repeated(nodes: &[u8], work: &[u32], count: usize) -> Place
         let second = work[i];
         let digest = record::digest_at(nodes, first as usize);
         if sorting::has_digest(nodes, digest, second) {
-            return Place::At(second as usize);
+            return Some(second as usize);
         }
         i += 1;
     }
-    Place::Nothing
+    None
 }

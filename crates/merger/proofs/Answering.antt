@@ -4,7 +4,7 @@ use Prim.Native.Nat.{ℕ, ◌*◌, ◌/◌, ◌≤◌}
 use mathlib.Core.Path.{◌≡◌, refl, sym, ◌∙◌, ap}
 use mathlib.Core.Bool.{true, false}
 use mathlib.Core.List.{List, ◌∷◌, ◌++◌}
-use Rattle.std.specs.Prelude.{Option, Some, None}
+use Rattle.std.specs.Prelude.{Option, Some, None, Ok, Err}
 use native.Mathlib.Omega.{arith}
 use lib.Dec.{ltb}
 use borrow.Author.Tests.{ltb-false}
@@ -23,15 +23,11 @@ use Rattle.forest.specs.declared.Reply.TheVariants.{Accepted, BadBuffers, TooMan
 use Rattle.claims.specs.Checks.{first_none, when_none, first_both}
 use Rattle.claims.specs.Leaves.{Leaving, leaving_nil, leaving_when, leaving_naming, accepted_clears, first_stops, refused_is, accepted_is}
 use Rattle.claims.specs.Settled.{answered_past}
-use Rattle.dense_order.specs.Found.{check_of}
-use Rattle.dense_order.specs.declared.Check.{Check}
-use Rattle.dense_order.specs.declared.Check.TheVariants as check
+use Rattle.dense_order.specs.Found.{Checked, check_of}
 use Rattle.dense_order.proofs.Options.{refused_some, passed_none}
 use Rattle.merger.specs.Settling.{Settled, Delivered}
 use Rattle.merger.specs.Settling as settling
 use Rattle.merger.specs.Steps.{size_checks, range_checks, walk_checks, later_checks, walk_of, result_of, Sized, joined_of, Joins}
-use Rattle.merger.specs.declared.Joined.{Joined}
-use Rattle.merger.specs.declared.Joined.TheVariants.{Whole, Refused}
 use Rattle.merger.proofs.Passing.{sizes_fit}
 
 -- WHAT A REFUSAL DOES TO THE WORK ROOM ------------------------------------------------------------
@@ -64,12 +60,12 @@ later_clears limit i records starts =
 
 -- THE ANSWER OF WHAT IS MERGED --------------------------------------------------------------------
 
-joined_some : (o : Option Reply) (x : Result) (r : Reply) → joined_of o x ≡ Refused r → o ≡ Some r
+joined_some : (o : Option Reply) (x : Result) (r : Reply) → joined_of o x ≡ Err r → o ≡ Some r
 unfolding joined_of
 joined_some None x r e = absurd (clash cc)
 joined_some (Some q) x r e = cc
 
-joined_none : (o : Option Reply) (x : Result) (n k : ℕ) → joined_of o x ≡ Whole n k → (o ≡ None) × (length x.nodes ≡ n) × (length x.roots ≡ k)
+joined_none : (o : Option Reply) (x : Result) (n k : ℕ) → joined_of o x ≡ Ok (n, k) → (o ≡ None) × (length x.nodes ≡ n) × (length x.roots ≡ k)
 unfolding joined_of
 joined_none None x n k e = (refl, cc, cc)
 joined_none (Some q) x n k e = absurd (clash cc)
@@ -100,14 +96,14 @@ module _ (limit : ℕ) (t s rs a b c w : List ℕ) where
   by_steps = refl
 
   -- q is the answer to the checks of sizes
-  module _ (q : Check) (said : q ≡ check_of (first sizes)) where
-    pub sizes_refused : (r : Reply) → q ≡ check.Refused r → called ≡ record { reply = r; room = record { nodes = a; roots = b; ids = c; work = w } }
+  module _ (q : Checked Unit) (said : q ≡ check_of (first sizes)) where
+    pub sizes_refused : (r : Reply) → q ≡ Err r → called ≡ record { reply = r; room = record { nodes = a; roots = b; ids = c; work = w } }
     unfolding refuse worked
     sizes_refused r e =
         let f = refused_some (first sizes) r (sym said ∙ e) in
         by_steps ∙ (refused_is _ _ _ r (first_stops sizes later r f) ∙ rw (sizes_leave limit t (length s) (length rs) (length c) (length w) r f, worked))
 
-    module _ (passed : q ≡ check.Passed) where
+    module _ (passed : q ≡ (Ok tt)) where
       fits : first sizes ≡ None
       fits = passed_none (first sizes) (sym said ∙ passed)
 
@@ -115,14 +111,14 @@ module _ (limit : ℕ) (t s rs a b c w : List ℕ) where
       sized = record { room = given; long = refl; passes = fits }
 
       -- u is the answer of what is merged, w₁ the room after it
-      module _ {w₁ : List ℕ} (long : length w₁ ≡ length w) (u : Joined) (told : Joins limit lent (length a / size) (length b) w₁ (length s / size) u) where
-        pub later_refused : {z : List ℕ} → z ≡ replicate (length w₁) 0 → (r : Reply) → u ≡ Refused r → called ≡ record { reply = r; room = record { nodes = a; roots = b; ids = c; work = z } }
+      module _ {w₁ : List ℕ} (long : length w₁ ≡ length w) (u : Checked (ℕ × ℕ)) (told : Joins limit lent (length a / size) (length b) w₁ (length s / size) u) where
+        pub later_refused : {z : List ℕ} → z ≡ replicate (length w₁) 0 → (r : Reply) → u ≡ Err r → called ≡ record { reply = r; room = record { nodes = a; roots = b; ids = c; work = z } }
         unfolding refuse worked
         later_refused zeros r e =
             let f = joined_some (first later) (result_of limit lent) r (sym told.answer ∙ e) in
             by_steps ∙ (answered_past _ sizes later _ fits ∙ (refused_is _ _ _ r f ∙ rw (later_clears limit lent (length a / size) (length b) r f, worked, zeros, long)))
 
-        module _ (n k : ℕ) (e : u ≡ Whole n k) where
+        module _ (n k : ℕ) (e : u ≡ Ok (n, k)) where
           free : (first later ≡ None) × (length (result_of limit lent).nodes ≡ n) × (length (result_of limit lent).roots ≡ k)
           free = joined_none (first later) (result_of limit lent) n k (sym told.answer ∙ e)
 

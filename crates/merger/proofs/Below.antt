@@ -5,7 +5,7 @@ use mathlib.Core.Path.{◌≡◌, refl, sym, ◌∙◌, ap}
 use mathlib.Core.Bool.{true}
 use mathlib.Core.List.{List, [], ◌∷◌, map, append-nil, Memᴰ}
 use mathlib.Core.Logic.{inl, ◌≢◌}
-use Rattle.std.specs.Prelude.{Some, None}
+use Rattle.std.specs.Prelude.{Some, None, Option, Ok}
 use native.Mathlib.Omega.{arith}
 use lib.Dec.{eqb}
 use borrow.Author.Tests.{eq-eqb, ne_eqb}
@@ -18,15 +18,10 @@ use Rattle.forest.specs.Graph.{at, replacement, replaced_by, listed, next}
 use Rattle.forest.specs.Walk.{State, going, onward, finish}
 use Rattle.claims.specs.Built.{no_kids}
 use Rattle.claims.specs.Children.{Bare}
-use Rattle.room.specs.Places.{place_of}
-use Rattle.room.specs.declared.Place.{Place}
-use Rattle.room.specs.declared.Place.TheVariants.{At, Nothing}
-use Rattle.room.proofs.Answers.{at_some, nothing_none}
 use Rattle.dense_order.proofs.Gathering.{external_kind}
 use Rattle.sorting.proofs.Uses.{get_d_map}
 use Rattle.merger.specs.Sections.{bases_at}
 use Rattle.merger.specs.Walking.{Charted, Pushing, Came, Walks, went_of, under}
-use Rattle.merger.specs.declared.Went.TheVariants.{On}
 use Rattle.merger.proofs.Finishing.{inherits}
 use Rattle.merger.proofs.Going.{Gone, gone_done, gone_all}
 
@@ -53,18 +48,18 @@ module _ {s w : List ℕ} {n h : ℕ} {g : List Node} (c : Charted s w n h g) (p
     no_children = no_kids (children (at g p)) (λ k m. not_internal (at g p) (inl is_external_lem) (c.mapped.bare p k m))
 
     -- the search for its replacement
-    module _ (r : Place) (f : r ≡ place_of (replacement (nodes_of s) (node_at s p).digest)) where
-      pub replaced_by_lem : (q : ℕ) → r ≡ At q → replaced_by g p ≡ Some q
-      replaced_by_lem q z = replaced_is ∙ (sym (c.same _) ∙ at_some _ r q f z)
+    module _ (r : Option ℕ) (f : r ≡ (replacement (nodes_of s) (node_at s p).digest)) where
+      pub replaced_by_lem : (q : ℕ) → r ≡ Some q → replaced_by g p ≡ Some q
+      replaced_by_lem q z = replaced_is ∙ (sym (c.same _) ∙ (sym f ∙ z))
 
-      pub next_one : (q : ℕ) → r ≡ At q → next g p ≡ q ∷ []
+      pub next_one : (q : ℕ) → r ≡ Some q → next g p ≡ q ∷ []
       unfolding next listed
       next_one q z = rw (no_children, replaced_by_lem q z) refl
 
-      pub unreplaced : r ≡ Nothing → replaced_by g p ≡ None
-      unreplaced z = replaced_is ∙ (sym (c.same _) ∙ nothing_none _ r f z)
+      pub unreplaced : r ≡ None → replaced_by g p ≡ None
+      unreplaced z = replaced_is ∙ (sym (c.same _) ∙ (sym f ∙ z))
 
-      pub next_none : r ≡ Nothing → next g p ≡ []
+      pub next_none : r ≡ None → next g p ≡ []
       unfolding next listed
       next_none z = rw (no_children, unreplaced z) refl
 
@@ -105,17 +100,17 @@ module _ {s w₀ w : List ℕ} {n h d m i p : ℕ} {g : List Node} {path : List 
   }
 
   -- and then it is finished itself
-  pub finishes : {w' : List ℕ} (r : ℕ) → (r ≡ length (finish g p a.state).merged) × Came g w w' n path (finish g p a.state) → Walks g w₀ w' n path (under g d path p t) (On r)
+  pub finishes : {w' : List ℕ} (r : ℕ) → (r ≡ length (finish g p a.state).merged) × Came g w w' n path (finish g p a.state) → Walks g w₀ w' n path (under g d path p t) (Ok r)
   unfolding under went_of onward
   finishes {w'} r (e, b) =
       let z : under g d path p t ≡ going (finish g p a.state) = rw (gone_done a all) refl in
-      rw z (record { answer = ap (λ (k : ℕ). On k) e; came = λ u y. from u y })
+      rw z (record { answer = ap (λ (k : ℕ). Ok k) e; came = λ u y. from u y })
     where
       from : (u : State) → going (finish g p a.state) ≡ going u → Came g w₀ w' n path u
       from u y = let x : finish g p a.state ≡ u = cc in rw (sym x) (record { holds = b.holds; rest = λ j k. b.rest j k ∙ a.rest j k })
 
   -- with its replacement's id
-  pub inheriting : (q : ℕ) → replaced_by g p ≡ Some q → Memᴰ q (next g p) → Walks g w₀ (set w p (get_or w q 0)) n path (under g d path p t) (On m)
+  pub inheriting : (q : ℕ) → replaced_by g p ≡ Some q → Memᴰ q (next g p) → Walks g w₀ (set w p (get_or w q 0)) n path (under g d path p t) (Ok m)
   inheriting q e k =
       let z = a.stands.charted.mapped.room in
       let (x, y) = inherits a.stands.fine a.stands.holds low (omega arith) e (gone_all a all q k) in

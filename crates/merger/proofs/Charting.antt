@@ -26,11 +26,11 @@ use Rattle.sorting.proofs.LastLaws.{highest_last}
 use Rattle.sorting.proofs.Uses.{all_listed, at_node_lem}
 use Rattle.dense_order.proofs.Arranging.{blank_room}
 use Rattle.dense_order.proofs.Fairness.{count_fits}
+use Rattle.dense_order.specs.Found.{Checked}
 use Rattle.merger.specs.Sections.{bases_at}
 use Rattle.merger.specs.Steps.{Past, walk_of, Ends}
 use Rattle.merger.specs.Table.{starts, Bases}
 use Rattle.merger.specs.Walking.{Mapped, Charted, Roomy, Shelved, Walks, Begun}
-use Rattle.merger.specs.declared.Went.{Went}
 use Rattle.merger.proofs.Holding.{mapped_kept}
 use Rattle.merger.proofs.Passing.{Fits, sizes_fit, passes}
 use Rattle.merger.proofs.Roots.{roots_are, walk_fine}
@@ -106,7 +106,7 @@ module _ {limit : ℕ} {i : Input} {w : List ℕ} {n : ℕ} (past : Past limit i
     }
 
     -- w₄ is what the walk leaves, which answers r
-    module _ {w₄ : List ℕ} {r : Went} (long' : length w₄ ≡ length w₃) (walks : (g : List Node) → Charted i.nodes w₃ n h g → Walks g w₃ w₄ n [] (walk g limit (starts i.table i.roots)) r) where
+    module _ {w₄ : List ℕ} {r : Checked ℕ} (long' : length w₄ ≡ length w₃) (walks : (g : List Node) → Charted i.nodes w₃ n h g → Walks g w₃ w₄ n [] (walk g limit (starts i.table i.roots)) r) where
       pub ends : Ends limit i w₄ n r
       unfolding walk_of
       ends =

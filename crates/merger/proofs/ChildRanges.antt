@@ -3,7 +3,7 @@
 use Prim.Native.Nat.{ℕ, ◌+◌, ◌-◌, ◌*◌, ◌/◌, ◌<◌, ◌≤◌}
 use mathlib.Core.Path.{◌≡◌, refl, sym, ◌∙◌, ap}
 use mathlib.Core.List.{List}
-use Rattle.std.specs.Prelude.{Option, None}
+use Rattle.std.specs.Prelude.{Option, None, Some}
 use native.Mathlib.Omega.{arith}
 use native.Mathlib.Numerals.{add-one}
 use lib.Dec.{leb}
@@ -16,10 +16,6 @@ use Rattle.forest.specs.Lists.{last_of, first_some}
 use Rattle.forest.specs.Graph.{forests, far_kid, far_child, no_node, at}
 use Rattle.forest.specs.Merge.{node_sum}
 use Rattle.sorting.proofs.Uses.{at_node_lem}
-use Rattle.dense_order.specs.Found.{kid_of, far_of}
-use Rattle.dense_order.specs.declared.Kid.TheVariants.{Child, Childless}
-use Rattle.dense_order.specs.declared.Far.TheVariants.{At, Nowhere}
-use Rattle.dense_order.proofs.Options.{child_some, childless_none}
 use Rattle.merger.specs.Table.{AtNode}
 use Rattle.merger.specs.declared.Cursor.{Cursor}
 use Rattle.merger.proofs.Cuts.{node_count, cut, cut_long, nodes_cut}
@@ -55,14 +51,14 @@ module _ (t s : List ℕ) where
       unfolding far_kids at
       kid = node_here (λ b n. far_kid n) t c (nodes_of s) no_node None p a counted ∙ ap (far_kid (c.nodes - c.base)) (at_node_lem s p h ∙ sym is)
 
-      pub near_found : (child : ℕ) → kid_of (last_of (leb (c.nodes - c.base)) (children m)) ≡ Child child → (rs : List ℕ) → At p child ≡ far_of (far_child (forests 0 (rows_of t) (nodes_of s) rs))
-      unfolding first_some far_kid far_of
-      near_found child e rs = rw (far_child_is t s rs, k, drop-cons (far_kids t s) p None (omega (arith, long)), kid, child_some _ child e)
-
-      pub near_step : kid_of (last_of (leb (c.nodes - c.base)) (children m)) ≡ Childless → Near t s (p + 1)
+      pub near_found : (child : ℕ) → (last_of (leb (c.nodes - c.base)) (children m)) ≡ Some child → (rs : List ℕ) → Some (p, child) ≡ (far_child (forests 0 (rows_of t) (nodes_of s) rs))
       unfolding first_some far_kid
-      near_step e = rw (k, drop-cons (far_kids t s) p None (omega (arith, long)), kid, childless_none _ e, add-one)
+      near_found child e rs = rw (far_child_is t s rs, k, drop-cons (far_kids t s) p None (omega (arith, long)), kid, e)
 
-    pub near_end : length s / size ≤ p → (rs : List ℕ) → Nowhere ≡ far_of (far_child (forests 0 (rows_of t) (nodes_of s) rs))
-    unfolding first_some far_of
+      pub near_step : (last_of (leb (c.nodes - c.base)) (children m)) ≡ None → Near t s (p + 1)
+      unfolding first_some far_kid
+      near_step e = rw (k, drop-cons (far_kids t s) p None (omega (arith, long)), kid, e, add-one)
+
+    pub near_end : length s / size ≤ p → (rs : List ℕ) → None ≡ (far_child (forests 0 (rows_of t) (nodes_of s) rs))
+    unfolding first_some
     near_end h rs = let l = long in let z : length (far_kids t s) ≤ p = omega arith in rw (far_child_is t s rs, k, drop_of_length-le (far_kids t s) z)

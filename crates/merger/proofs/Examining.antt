@@ -3,7 +3,7 @@
 use Prim.Native.Nat.{ℕ}
 use mathlib.Core.Path.{◌≡◌}
 use mathlib.Core.List.{List, [], ◌∷◌}
-use Rattle.std.specs.Prelude.{Option, Some, None}
+use Rattle.std.specs.Prelude.{Option, Some, None, Ok, Err}
 use Rattle.record.specs.Node.{nodes_of, bad, rows_of}
 use Rattle.record.specs.declared.Node.{Node}
 use Rattle.record.proofs.Basics.{clash}
@@ -14,15 +14,7 @@ use Rattle.forest.specs.Lists.{lowest}
 use Rattle.forest.specs.Merge.{forests_of}
 use Rattle.forest.specs.Validate.{bad_record}
 use Rattle.forest.specs.declared.Reply.TheVariants.{BadRecord, RootRange, ChildRange}
-use Rattle.room.specs.Places.{place_of}
-use Rattle.room.specs.declared.Place.{Place}
-use Rattle.room.specs.declared.Place.TheVariants.{At, Nothing}
-use Rattle.room.proofs.Answers.{at_some, nothing_none}
-use Rattle.dense_order.specs.Found.{far_of, check_of}
-use Rattle.dense_order.specs.declared.Far.{Far}
-use Rattle.dense_order.specs.declared.Far.TheVariants as far
-use Rattle.dense_order.specs.declared.Check.TheVariants.{Passed, Refused}
-use Rattle.dense_order.proofs.Options.{nowhere_none}
+use Rattle.dense_order.specs.Found.{check_of}
 use Rattle.merger.specs.Steps.{range_checks}
 
 module _ (t s rs : List ℕ) where
@@ -31,33 +23,33 @@ module _ (t s rs : List ℕ) where
   lent = record { table = t; nodes = s; roots = rs }
 
   -- q is the answer to the search for a bad record
-  module _ (q : Place) (said : q ≡ place_of (lowest bad (nodes_of s))) where
-    pub record_refused : (p : ℕ) → q ≡ At p → Refused (BadRecord p) ≡ check_of (first (range_checks lent))
+  module _ (q : Option ℕ) (said : q ≡ (lowest bad (nodes_of s))) where
+    pub record_refused : (p : ℕ) → q ≡ Some p → Err (BadRecord p) ≡ check_of (first (range_checks lent))
     unfolding range_checks bad_record naming first check_of
-    record_refused p e = rw (at_some (lowest bad (nodes_of s)) q p said e)
+    record_refused p e = rw ((sym said ∙ e))
 
     -- there is none; u is the answer to the search for a far root
-    module _ (good : q ≡ Nothing) (u : Place) (says : (ns : List Node) → u ≡ place_of (far_root (forests 0 (rows_of t) ns rs))) where
+    module _ (good : q ≡ None) (u : Option ℕ) (says : (ns : List Node) → u ≡ (far_root (forests 0 (rows_of t) ns rs))) where
       none_bad : lowest bad (nodes_of s) ≡ None
-      none_bad = nothing_none _ q said good
+      none_bad = (sym said ∙ good)
 
-      pub root_refused : (k : ℕ) → u ≡ At k → Refused (RootRange k) ≡ check_of (first (range_checks lent))
+      pub root_refused : (k : ℕ) → u ≡ Some k → Err (RootRange k) ≡ check_of (first (range_checks lent))
       unfolding range_checks bad_record root_range forests_of naming first check_of
-      root_refused k e = rw (none_bad, at_some (far_root (forests 0 (rows_of t) (nodes_of s) rs)) u k (says (nodes_of s)) e)
+      root_refused k e = rw (none_bad, (sym (says (nodes_of s)) ∙ e))
 
       -- there is none; v is the answer to the search for a far child
-      module _ (near : u ≡ Nothing) (v : Far) (tells : (rs : List ℕ) → v ≡ far_of (far_child (forests 0 (rows_of t) (nodes_of s) rs))) where
+      module _ (near : u ≡ None) (v : Option (ℕ × ℕ)) (tells : (rs : List ℕ) → v ≡ (far_child (forests 0 (rows_of t) (nodes_of s) rs))) where
         none_far : far_root (forests 0 (rows_of t) (nodes_of s) rs) ≡ None
-        none_far = nothing_none _ u (says (nodes_of s)) near
+        none_far = (sym (says (nodes_of s)) ∙ near)
 
-        pub child_refused : (p c : ℕ) → v ≡ far.At p c → Refused (ChildRange p c) ≡ check_of (first (range_checks lent))
-        unfolding range_checks bad_record root_range child_range forests_of naming first check_of far_of
+        pub child_refused : (p c : ℕ) → v ≡ Some (p, c) → Err (ChildRange p c) ≡ check_of (first (range_checks lent))
+        unfolding range_checks bad_record root_range child_range forests_of naming first check_of
         child_refused p c e = rw (none_bad, none_far) (go (far_child (forests 0 (rows_of t) (nodes_of s) rs)) (tells rs))
           where
-            go : (o : Option (ℕ × ℕ)) → v ≡ far_of o → Refused (ChildRange p c) ≡ check_of (first (naming (λ e. ChildRange e.0 e.1) o ∷ []))
+            go : (o : Option (ℕ × ℕ)) → v ≡ o → Err (ChildRange p c) ≡ check_of (first (naming (λ e. ChildRange e.0 e.1) o ∷ []))
             go None z = absurd (clash cc)
             go (Some d) z = cc
 
-        pub ranges_passed : v ≡ far.Nowhere → Passed ≡ check_of (first (range_checks lent))
+        pub ranges_passed : v ≡ None → (Ok tt) ≡ check_of (first (range_checks lent))
         unfolding range_checks bad_record root_range child_range forests_of naming first check_of
-        ranges_passed e = rw (none_bad, none_far, nowhere_none (far_child (forests 0 (rows_of t) (nodes_of s) rs)) v (tells rs) e)
+        ranges_passed e = rw (none_bad, none_far, (sym (tells rs) ∙ e))

@@ -1,5 +1,6 @@
 -- Taking one position after the other: where the walk has come to after the first i of a list.
 -- Assumes nothing.
+use Rattle.std.specs.Prelude.{Ok}
 use Prim.Native.Nat.{ℕ, suc, ◌+◌, ◌<◌, ◌≤◌}
 use mathlib.Core.Path.{◌≡◌, refl, sym, ◌∙◌, ap}
 use mathlib.Core.List.Memᴰ
@@ -12,30 +13,29 @@ use Rattle.record.specs.declared.Node.{Node}
 use Rattle.record.proofs.Basics.{clash}
 use Rattle.forest.specs.Walk.{State, Walked, going, cycle, deep, onward, each, visit}
 use Rattle.claims.specs.Sound.{Finished}
+use Rattle.dense_order.specs.Found.{Checked}
 use Rattle.merger.specs.Sections.{bases_at}
 use Rattle.merger.specs.Walking.{Stands, went_of, Walks}
-use Rattle.merger.specs.declared.Went.{Went}
-use Rattle.merger.specs.declared.Went.TheVariants.{On}
 use Rattle.merger.proofs.Fine.{visit_fine}
 use Rattle.merger.proofs.Holding.{charted_kept}
 
 -- ANSWERS -----------------------------------------------------------------------------------------
 
 -- a walk that says how many nodes are merged goes on
-pub on_going : (o : Walked) (c : ℕ) → went_of o ≡ On c → (u : State) × (o ≡ going u) × (c ≡ length u.merged)
+pub on_going : (o : Walked) (c : ℕ) → went_of o ≡ Ok c → (u : State) × (o ≡ going u) × (c ≡ length u.merged)
 unfolding went_of
 on_going (going u) c e = (u, refl, cc)
 on_going (cycle p) c e = absurd (clash cc)
 on_going (deep p) c e = absurd (clash cc)
 
 -- one that does not has stopped, whatever was to follow
-pub off_stops : (o : Walked) (k : State → Walked) → ((c : ℕ) → went_of o ≡ On c → ⊥) → onward o k ≡ o
+pub off_stops : (o : Walked) (k : State → Walked) → ((c : ℕ) → went_of o ≡ Ok c → ⊥) → onward o k ≡ o
 unfolding went_of onward
 off_stops (going u) k f = absurd (f _ refl)
 off_stops (cycle p) k f = refl
 off_stops (deep p) k f = refl
 
-pub off_not : (o : Walked) (u : State) → ((c : ℕ) → went_of o ≡ On c → ⊥) → o ≡ going u → ⊥
+pub off_not : (o : Walked) (u : State) → ((c : ℕ) → went_of o ≡ Ok c → ⊥) → o ≡ going u → ⊥
 unfolding went_of
 off_not o u f e = f (length u.merged) (rw e refl)
 
@@ -69,8 +69,8 @@ module _ {s w₀ w : List ℕ} {n h d m i : ℕ} {g : List Node} {path l : List 
     unfolding each
     next_taken = a.same ∙ rw (drop-cons l i 0 more, is) refl
 
-    module _ {w' : List ℕ} {r : Went} (low : x < n) (long : length w' ≡ length w) (k : Walks g w w' n path (visit g d path x a.state) r) where
-      pub gone_step : (c : ℕ) → r ≡ On c → Gone s w₀ w' n h d c (i + 1) g path l t
+    module _ {w' : List ℕ} {r : Checked ℕ} (low : x < n) (long : length w' ≡ length w) (k : Walks g w w' n path (visit g d path x a.state) r) where
+      pub gone_step : (c : ℕ) → r ≡ Ok c → Gone s w₀ w' n h d c (i + 1) g path l t
       unfolding onward
       gone_step c e = from (on_going (visit g d path x a.state) c (sym k.answer ∙ e))
         where
@@ -90,10 +90,10 @@ module _ {s w₀ w : List ℕ} {n h d m i : ℕ} {g : List Node} {path l : List 
               or y keep new (inl j) = keep (a.ended y j)
               or y keep new (inr j) = rw (Memᴰ.eq_of_singleton j ∙ sym is) new
 
-      pub gone_stops : ((c : ℕ) → r ≡ On c → ⊥) → (f : State → Walked) → (r ≡ went_of (onward (each (visit g d path) l t) f)) × ((u : State) → onward (each (visit g d path) l t) f ≡ going u → ⊥)
+      pub gone_stops : ((c : ℕ) → r ≡ Ok c → ⊥) → (f : State → Walked) → (r ≡ went_of (onward (each (visit g d path) l t) f)) × ((u : State) → onward (each (visit g d path) l t) f ≡ going u → ⊥)
       gone_stops off f =
           let o : Walked = visit g d path x a.state in
-          let z : (c : ℕ) → went_of o ≡ On c → ⊥ = λ c e. off c (k.answer ∙ e) in
+          let z : (c : ℕ) → went_of o ≡ Ok c → ⊥ = λ c e. off c (k.answer ∙ e) in
           let e : each (visit g d path) l t ≡ o = next_taken ∙ off_stops o _ z in
           let v : onward (each (visit g d path) l t) f ≡ o = ap (λ (j : Walked). onward j f) e ∙ off_stops o f z in
           (k.answer ∙ ap went_of (sym v), λ u y. off_not o u z (sym v ∙ y))

@@ -4,7 +4,7 @@ use Prim.Native.Nat.{ℕ}
 use mathlib.Core.Path.{◌≡◌, refl, sym, ◌∙◌}
 use mathlib.Core.Bool.{true, false, ◌||◌}
 use mathlib.Core.List.{List, Memᴰ}
-use Rattle.std.specs.Prelude.{Some, None}
+use Rattle.std.specs.Prelude.{Some, None, Ok, Err}
 use lib.Dec.{ltb}
 use lib.ListN.{length, length-map}
 use Rattle.record.specs.declared.Node.{Node}
@@ -19,61 +19,56 @@ use Rattle.claims.specs.Checks.{first_append}
 use Rattle.claims.specs.Leaves.{first_stops}
 use Rattle.claims.specs.Merges.{roots_finished}
 use Rattle.claims.specs.Sound.{Finished}
-use Rattle.dense_order.specs.Found.{check_of}
-use Rattle.dense_order.specs.declared.Check.{Check}
-use Rattle.dense_order.specs.declared.Check.TheVariants as check
+use Rattle.dense_order.specs.Found.{Checked, check_of}
 use Rattle.dense_order.proofs.Options.{refused_some, passed_none}
 use Rattle.merger.specs.Settling.{Over, Settled}
 use Rattle.merger.specs.Steps.{range_checks, walk_checks, later_checks, Sized, Past, walk_of, result_of, Ends, joined_of, Joins}
 use Rattle.merger.specs.Table.{starts}
 use Rattle.merger.specs.Walking.{went_of, Ended}
-use Rattle.merger.specs.declared.Went.{Went}
-use Rattle.merger.specs.declared.Went.TheVariants.{On, Cycle, TooDeep}
-use Rattle.merger.specs.declared.Joined.TheVariants.{Whole, Refused}
 use Rattle.merger.proofs.Going.{on_going}
 use Rattle.merger.proofs.Roots.{roots_are}
 
 -- which walk an answer tells of
-went_cycle : (o : Walked) (p : ℕ) → went_of o ≡ Cycle p → o ≡ cycle p
+went_cycle : (o : Walked) (p : ℕ) → went_of o ≡ Err (Cycle p) → o ≡ cycle p
 unfolding went_of
 went_cycle (going t) p e = absurd (clash cc)
 went_cycle (cycle q) p e = cc
 went_cycle (deep q) p e = absurd (clash cc)
 
-went_deep : (o : Walked) (p : ℕ) → went_of o ≡ TooDeep p → o ≡ deep p
+went_deep : (o : Walked) (p : ℕ) → went_of o ≡ Err (TooDeep p) → o ≡ deep p
 unfolding went_of
 went_deep (going t) p e = absurd (clash cc)
 went_deep (cycle q) p e = absurd (clash cc)
 went_deep (deep q) p e = cc
 
 module _ {limit : ℕ} {i : Input} (records roots n : ℕ) where
-  refuses : {w₁ : List ℕ} (r : Reply) → first (later_checks limit i records roots) ≡ Some r → Joins limit i records roots w₁ n (Refused r)
+  refuses : {w₁ : List ℕ} (r : Reply) → first (later_checks limit i records roots) ≡ Some r → Joins limit i records roots w₁ n (Err r)
   unfolding joined_of
   refuses r e = record { answer = rw e; settled = λ z. absurd (clash cc) }
 
   -- q is the answer to the checks of records and ranges
-  module _ {w : List ℕ} (sized : Sized limit i w) (q : Check) (said : q ≡ check_of (first (range_checks i))) where
-    pub ranges_refused : (r : Reply) → q ≡ check.Refused r → Joins limit i records roots w n (Refused r)
+  module _ {w : List ℕ} (sized : Sized limit i w) (q : Checked Unit) (said : q ≡ check_of (first (range_checks i))) where
+    pub ranges_refused : (r : Reply) → q ≡ Err r → Joins limit i records roots w n (Err r)
     ranges_refused r e = refuses r (first_stops (range_checks i) (walk_checks limit i records roots) r (refused_some (first (range_checks i)) r (sym said ∙ e)))
 
-    pub past : q ≡ check.Passed → Past limit i w
+    pub past : q ≡ (Ok tt) → Past limit i w
     past e = record { sized = sized; ranged = passed_none (first (range_checks i)) (sym said ∙ e) }
 
   -- w₁ is what the walk leaves, which answers r
-  module _ {w w₁ : List ℕ} (before : Past limit i w) {r : Went} (ends : Ends limit i w₁ n r) where
+  module _ {w w₁ : List ℕ} (before : Past limit i w) {r : Checked ℕ} (ends : Ends limit i w₁ n r) where
     behind : first (later_checks limit i records roots) ≡ first (walk_checks limit i records roots)
     behind = first_append (range_checks i) (walk_checks limit i records roots) before.ranged
 
-    pub cycle_refused : (p : ℕ) → r ≡ Cycle p → Joins limit i records roots w₁ n (Refused (reply.Cycle p))
+    pub cycle_refused : (p : ℕ) → r ≡ Err (Cycle p) → Joins limit i records roots w₁ n (Err (reply.Cycle p))
     unfolding walk_checks stopped first
     cycle_refused p e = refuses _ (behind ∙ rw (went_cycle (walk_of limit i) p (sym ends.answer ∙ e)) refl)
 
-    pub deep_refused : (p : ℕ) → r ≡ TooDeep p → Joins limit i records roots w₁ n (Refused (reply.TooDeep p))
+    pub deep_refused : (p : ℕ) → r ≡ Err (TooDeep p) → Joins limit i records roots w₁ n (Err (reply.TooDeep p))
     unfolding walk_checks stopped first
     deep_refused p e = refuses _ (behind ∙ rw (went_deep (walk_of limit i) p (sym ends.answer ∙ e)) refl)
 
     -- it goes on to its end, with m nodes merged
-    module _ (m : ℕ) (on : r ≡ On m) where
+    module _ (m : ℕ) (on : r ≡ Ok m) where
       ended : (t : State) → walk_of limit i ≡ going t → m ≡ length t.merged → Ended i.nodes w₁ n m (graph i) t
       ended t e l = rw l (ends.ended t e)
 
@@ -111,11 +106,11 @@ module _ {limit : ℕ} {i : Input} (records roots n : ℕ) where
                   settled = rw (e, roots_are i) z;
                 }
 
-        pub cramped : (ltb records m || ltb roots count) ≡ true → Joins limit i records roots w₂ n (Refused (reply.NoRoom m count))
+        pub cramped : (ltb records m || ltb roots count) ≡ true → Joins limit i records roots w₂ n (Err (reply.NoRoom m count))
         unfolding walk_checks first when
         cramped e = let z = closed in refuses _ (behind ∙ rw (z.onto, z.nodes, z.heads, e) refl)
 
-        pub whole : (ltb records m || ltb roots count) ≡ false → Joins limit i records roots w₂ n (Whole m count)
+        pub whole : (ltb records m || ltb roots count) ≡ false → Joins limit i records roots w₂ n (Ok (m, count))
         unfolding walk_checks first when joined_of
         whole e =
             let z = closed in

@@ -6,7 +6,7 @@ use mathlib.Core.Bool.{false}
 use mathlib.Core.List.Memᴰ
 use mathlib.Core.List.{List, ◌∷◌, Memᴰ}
 use mathlib.Core.Logic.{◌⊎◌, inl, inr}
-use Rattle.std.specs.Prelude.{None}
+use Rattle.std.specs.Prelude.{None, Ok}
 use native.Mathlib.Omega.{arith}
 use native.Mathlib.Decide.{ℕ_discrete}
 use lib.ListN.{length, get_or, set, length-set}
@@ -17,10 +17,9 @@ use Rattle.forest.specs.Lists.{has}
 use Rattle.forest.specs.Walk.{State, going, cycle, deep, id_in, finished, opened, unseen, marked, mark, enter, visit}
 use Rattle.claims.specs.Searches.{not_in}
 use Rattle.claims.specs.Sound.{Finished, in_id_in}
+use Rattle.dense_order.specs.Found.{Checked}
 use Rattle.merger.specs.Sections.{sources_at, bases_at}
 use Rattle.merger.specs.Walking.{word, Stands, under, went_of, Came, Walks}
-use Rattle.merger.specs.declared.Went.{Went}
-use Rattle.merger.specs.declared.Went.TheVariants.{On, Cycle, TooDeep}
 use Rattle.merger.proofs.Holding.{word_unseen, word_open, word_finished, has_other, has_self, word_one, charted_kept}
 
 -- a store below the bases changes nothing from them on
@@ -84,12 +83,12 @@ module _ {s w : List ℕ} {n h m : ℕ} {g : List Node} {path : List ℕ} {t : S
   unfolding mark marked
   unseen_mark e = let (a, b) = is_unseen q p low e in rw (a, b) refl
 
-  pub takes_over : 1 < get_or w p 0 → Walks g w w n path (visit g d path p t) (On m)
+  pub takes_over : 1 < get_or w p 0 → Walks g w w n path (visit g d path p t) (Ok m)
   unfolding mark marked went_of
   takes_over l =
       let (i, a, b) = word_finished (id_in t.done p) (has p path) (rw (q.holds.states p low) at l) in
       let e : visit g d path p t ≡ going t = visit_over g path p t d (rw a refl) in
-      rw e (record { answer = ap (λ (k : ℕ). On k) q.counted; came = λ u z. same u z })
+      rw e (record { answer = ap (λ (k : ℕ). Ok k) q.counted; came = λ u z. same u z })
     where
       same : (u : State) → going t ≡ going u → Came g w w n path u
       same u z = let y : t ≡ u = cc in rw (sym y) (record { holds = q.holds; rest = λ y k. refl })
@@ -104,7 +103,7 @@ module _ {s w : List ℕ} {n h m : ℕ} {g : List Node} {path : List ℕ} {t : S
   unfolding went_of
   takes_deep l z = rw (z, visit_deep g path p t (unseen_mark l)) (record { answer = refl; came = λ u y. absurd (clash (cc)) })
 
-  pub takes_below : {w' : List ℕ} {r : Went} → get_or w p 0 ≡ 0 → 0 < d → Walks g (set w p 1) w' n path (under g (d - 1) path p t) r → Walks g w w' n path (visit g d path p t) r
+  pub takes_below : {w' : List ℕ} {r : Checked ℕ} → get_or w p 0 ≡ 0 → 0 < d → Walks g (set w p 1) w' n path (under g (d - 1) path p t) r → Walks g w w' n path (visit g d path p t) r
   takes_below {w'} {r} l k a =
       let z : d ≡ suc (d - 1) = omega arith in
       let e : visit g d path p t ≡ under g (d - 1) path p t = ap (λ (j : ℕ). visit g j path p t) z ∙ visit_opens g path p t (d - 1) (unseen_mark l) in

@@ -3,7 +3,7 @@
 use Prim.Native.Nat.{ℕ, ◌+◌, ◌<◌, ◌≤◌}
 use mathlib.Core.Path.{◌≡◌, refl, sym, ◌∙◌}
 use mathlib.Core.List.{List, [], ◌∷◌, map}
-use Rattle.std.specs.Prelude.{Some, None}
+use Rattle.std.specs.Prelude.{Some, None, Option}
 use native.Mathlib.Omega.{arith}
 use lib.ListN.{length, get_or, set, length-append}
 use Rattle.record.specs.Lists.{run}
@@ -13,10 +13,6 @@ use Rattle.forest.specs.Graph.{at}
 use Rattle.forest.specs.Lists.{lowest}
 use Rattle.forest.specs.Walk.{State, id_of, ended, push, finish}
 use Rattle.claims.specs.Searches.{lowest_lt}
-use Rattle.room.specs.Places.{place_of}
-use Rattle.room.specs.declared.Place.{Place}
-use Rattle.room.specs.declared.Place.TheVariants.{At, Nothing}
-use Rattle.room.proofs.Answers.{at_some, nothing_none}
 use Rattle.merger.specs.Sections.{sources_at, bases_at}
 use Rattle.merger.specs.Walking.{Roomy, merged_at, Readable, Pushing, Came}
 use Rattle.merger.proofs.Fine.{fine_fewer}
@@ -46,14 +42,14 @@ module _ {s w : List ℕ} {n m p : ℕ} {g : List Node} {path : List ℕ} {t : S
     own_count = rw is (q.mapped.fit p q.below)
 
     -- the search among the merged nodes
-    module _ (r : Place) (f : r ≡ place_of (lowest (same_node x) (map (λ k. merged_at s w n (get_or w (sources_at n + k) 0)) (run 0 m)))) where
+    module _ (r : Option ℕ) (f : r ≡ (lowest (same_node x) (map (λ k. merged_at s w n (get_or w (sources_at n + k) 0)) (run 0 m)))) where
       found_is : lowest (same_node x) (map (λ k. merged_at s w n (get_or w (sources_at n + k) 0)) (run 0 m)) ≡ lowest (same_node (renumber (id_of t) (at g p))) t.merged
       found_is = rw (is, merged_is q.mapped q.fine q.holds p q.below q.ended, q.counted, merged_list q.mapped q.fine q.holds) refl
 
       -- an equal earlier node has the id k
-      module _ (k : ℕ) (e : r ≡ At k) where
+      module _ (k : ℕ) (e : r ≡ Some k) where
         found : lowest (same_node (renumber (id_of t) (at g p))) t.merged ≡ Some k
-        found = sym found_is ∙ at_some _ r k f e
+        found = sym found_is ∙ (sym f ∙ e)
 
         pub found_low : k < m
         found_low = rw q.counted (lowest_lt _ t.merged k found)
@@ -63,9 +59,9 @@ module _ {s w : List ℕ} {n m p : ℕ} {g : List Node} {path : List ℕ} {t : S
         pushed_equal = rw (q.kept, finish, found, push) (q.counted, holds_ended q.fine q.holds q.below wide k (k + 2) refl)
 
       -- there is none
-      pub pushed_new : r ≡ Nothing → (m + 1 ≡ length (finish g p t).merged) × Came g w (set (set w (sources_at n + m) p) p (m + 2)) n path (finish g p t)
+      pub pushed_new : r ≡ None → (m + 1 ≡ length (finish g p t).merged) × Came g w (set (set w (sources_at n + m) p) p (m + 2)) n path (finish g p t)
       unfolding finish push ended
       pushed_new e =
-          let z : lowest (same_node (renumber (id_of t) (at g p))) t.merged ≡ None = sym found_is ∙ nothing_none _ r f e in
+          let z : lowest (same_node (renumber (id_of t) (at g p))) t.merged ≡ None = sym found_is ∙ (sym f ∙ e) in
           let l = length-append t.merged (renumber (id_of t) (at g p) ∷ []) in
           rw (q.kept, finish, z, push, q.counted) (omega arith, holds_new q.fine q.holds q.below wide (renumber (id_of t) (at g p)) refl q.ended)

@@ -1,5 +1,6 @@
 -- Laws of a loop that seeks the lowest place of a root that names no node of its forest.
 -- Assumes nothing.
+use Rattle.std.specs.Prelude.{Some, None}
 use Prim.Native.Nat.{ℕ, ◌+◌, ◌-◌, ◌<◌, ◌≤◌}
 use mathlib.Core.Path.{◌≡◌}
 use mathlib.Core.Bool.{Bool, true, not}
@@ -15,8 +16,6 @@ use Rattle.record.specs.declared.Node.{Node}
 use Rattle.forest.specs.Lists.{lowest}
 use Rattle.forest.specs.Graph.{forests, far_root}
 use Rattle.forest.specs.Merge.{root_sum}
-use Rattle.room.specs.Places.{place_of}
-use Rattle.room.specs.declared.Place.TheVariants.{At, Nothing}
 use Rattle.dense_order.proofs.Lowest.{further, further_zero, further_here, further_there}
 use Rattle.merger.specs.Table.{AtRoot}
 use Rattle.merger.specs.declared.Cursor.{Cursor}
@@ -50,7 +49,7 @@ module _ (t rs : List ℕ) where
       unfolding names
       named = root_here (λ b n r. ltb r n) t c rs 0 true k a whole
 
-      pub inside_found : c.nodes - c.base ≤ get_or rs k 0 → (ns : List Node) → At k ≡ place_of (far_root (forests 0 (rows_of t) ns rs))
+      pub inside_found : c.nodes - c.base ≤ get_or rs k 0 → (ns : List Node) → Some k ≡ (far_root (forests 0 (rows_of t) ns rs))
       unfolding lowest
       inside_found e ns = rw (far_root_is t ns rs, s, drop-cons (names t rs) k true (omega (arith, long)), named, le-ltb (get_or rs k 0) (c.nodes - c.base) e, further_here k _)
 
@@ -58,6 +57,6 @@ module _ (t rs : List ℕ) where
       unfolding lowest
       inside_step e = rw (s, drop-cons (names t rs) k true (omega (arith, long)), named, lt-ltb (get_or rs k 0) (c.nodes - c.base) e, further_there k _, add-one)
 
-    pub inside_end : length rs ≤ k → (ns : List Node) → Nothing ≡ place_of (far_root (forests 0 (rows_of t) ns rs))
+    pub inside_end : length rs ≤ k → (ns : List Node) → None ≡ (far_root (forests 0 (rows_of t) ns rs))
     unfolding lowest further
     inside_end h ns = let l = long in let z : length (names t rs) ≤ k = omega arith in rw (far_root_is t ns rs, s, drop_of_length-le (names t rs) z)

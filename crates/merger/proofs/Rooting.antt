@@ -1,5 +1,6 @@
 -- Taking the roots of all forests one after the other.
 -- Assumes nothing.
+use Rattle.std.specs.Prelude.{Ok}
 use Prim.Native.Nat.{ℕ, ◌+◌, ◌<◌, ◌≤◌}
 use mathlib.Core.Path.{◌≡◌, refl, sym, ◌∙◌, ap}
 use mathlib.Core.List.{List, []}
@@ -9,11 +10,10 @@ use Rattle.record.specs.declared.Node.{Node}
 use Rattle.forest.specs.Lists.{has}
 use Rattle.forest.specs.Walk.{State, start, Walked, going, cycle, deep, id_in, onward, each, visit, walk}
 use Rattle.claims.specs.Searches.{get_d_mem}
+use Rattle.dense_order.specs.Found.{Checked}
 use Rattle.merger.specs.Table.{ToRoot, AtRoot, starts}
 use Rattle.merger.specs.Walking.{Charted, word, Stands, went_of, Came, Walks, Begun}
 use Rattle.merger.specs.declared.Cursor.{Cursor}
-use Rattle.merger.specs.declared.Went.{Went}
-use Rattle.merger.specs.declared.Went.TheVariants.{On}
 use Rattle.merger.proofs.Cursors.{toward_start, toward_next, root_position, starts_long}
 use Rattle.merger.proofs.Fine.{fine_start}
 use Rattle.merger.proofs.Going.{Gone, gone_start, gone_done, gone_step, gone_stops}
@@ -56,24 +56,24 @@ module _ {t s rs w₀ w : List ℕ} {n h d : ℕ} {c : Cursor} {m k : ℕ} (b : 
     pub root_low : x < n
     root_low = b.near x (rw root_at (get_d_mem (starts t rs) k 0 more))
 
-    module _ {w' : List ℕ} {r : Went} (long : length w' ≡ length w) where
-      pub root_stops : {g : List Node} (q : Charted s w₀ n h g) → Walks g w w' n [] (visit g d [] x (a.gone g q).state) r → ((j : ℕ) → r ≡ On j → ⊥) → Walks g w₀ w' n [] (walk g d (starts t rs)) r
+    module _ {w' : List ℕ} {r : Checked ℕ} (long : length w' ≡ length w) where
+      pub root_stops : {g : List Node} (q : Charted s w₀ n h g) → Walks g w w' n [] (visit g d [] x (a.gone g q).state) r → ((j : ℕ) → r ≡ Ok j → ⊥) → Walks g w₀ w' n [] (walk g d (starts t rs)) r
       unfolding walk
       root_stops {g} q o off =
           let (y, z) = gone_stops (a.gone g q) more x root_at root_low long o off (λ u. going u) in
           let e : onward (each (visit g d []) (starts t rs) start) (λ u. going u) ≡ each (visit g d []) (starts t rs) start = onward_same _ in
           record { answer = y ∙ ap went_of e; came = λ u i. absurd (z u (e ∙ i)) }
 
-      pub rooting_step : (j : ℕ) → r ≡ On j → ((g : List Node) (q : Charted s w₀ n h g) → Walks g w w' n [] (visit g d [] x (a.gone g q).state) r) → Rooting t s rs w₀ w' n h d c' j (k + 1)
+      pub rooting_step : (j : ℕ) → r ≡ Ok j → ((g : List Node) (q : Charted s w₀ n h g) → Walks g w w' n [] (visit g d [] x (a.gone g q).state) r) → Rooting t s rs w₀ w' n h d c' j (k + 1)
       rooting_step j e o = record { within = omega arith; long = long ∙ a.long; toward = toward_next t c' k at; gone = λ g q. gone_step (a.gone g q) more x root_at root_low long (o g q) j e }
 
   -- all roots are taken
-  pub rooting_ends : length rs ≤ k → {g : List Node} → Charted s w₀ n h g → Walks g w₀ w n [] (walk g d (starts t rs)) (On m)
+  pub rooting_ends : length rs ≤ k → {g : List Node} → Charted s w₀ n h g → Walks g w₀ w n [] (walk g d (starts t rs)) (Ok m)
   unfolding walk went_of
   rooting_ends l {g} q =
       let v = a.gone g q in
       let e : each (visit g d []) (starts t rs) start ≡ going v.state = gone_done v (rw (starts_long t rs b.long) l) in
-      rw e (record { answer = ap (λ (i : ℕ). On i) v.stands.counted; came = λ u y. from v u y })
+      rw e (record { answer = ap (λ (i : ℕ). Ok i) v.stands.counted; came = λ u y. from v u y })
     where
       from : (v : Gone s w₀ w n h d m k g [] (starts t rs) start) (u : State) → going v.state ≡ going u → Came g w₀ w n [] u
       from v u y = let x : v.state ≡ u = cc in rw (sym x) (record { holds = v.stands.holds; rest = v.rest })

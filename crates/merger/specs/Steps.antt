@@ -1,6 +1,6 @@
 -- Merge's steps: what each part of its checks looks at, and what its walk and its result leave in the room.
 -- Assumes nothing: these are definitions.
-use Rattle.std.specs.Prelude.{ℕ, ◌*◌, ◌%◌, ◌≡◌, not, ◌&&◌, ◌||◌, List, [], ◌∷◌, ◌++◌, leb, ltb, eqb, length, Option, Some, None}
+use Rattle.std.specs.Prelude.{ℕ, ◌*◌, ◌%◌, ◌≡◌, not, ◌&&◌, ◌||◌, List, [], ◌∷◌, ◌++◌, leb, ltb, eqb, length, Option, Some, None, Ok, Err}
 use Rattle.record.specs.Node.{size, row_size, rows_of}
 use Rattle.forest.specs.Canonicalize.{root_range, child_range}
 use Rattle.forest.specs.Lent.{Input, Room, Result, work_words, most, when, first}
@@ -9,11 +9,9 @@ use Rattle.forest.specs.Validate.{bad_record}
 use Rattle.forest.specs.Walk.{State, Walked, going, walk}
 use Rattle.forest.specs.declared.Reply.{Reply}
 use Rattle.forest.specs.declared.Reply.TheVariants.{BadBuffers, TooMany, NoRoom, BadLimit}
+use Rattle.dense_order.specs.Found.{Checked}
 use Rattle.merger.specs.Settling.{Settled}
 use Rattle.merger.specs.Walking.{went_of, Ended}
-use Rattle.merger.specs.declared.Went.{Went}
-use Rattle.merger.specs.declared.Joined.{Joined}
-use Rattle.merger.specs.declared.Joined.TheVariants.{Whole, Refused}
 
 -- the checks of limit and sizes, by the table and the buffers' lengths: 13, 2, 1
 unfoldable pub size_checks : ℕ → List ℕ → ℕ → ℕ → ℕ → ℕ → List (Option Reply)
@@ -62,17 +60,17 @@ pub record Past (limit : ℕ) (i : Input) (w : List ℕ) : Type 0 where
   pub ranged : first (range_checks i) ≡ None
 
 -- the walk's answer is r; if it has come to t, so has the room w
-pub record Ends (limit : ℕ) (i : Input) (w : List ℕ) (n : ℕ) (r : Went) : Type 0 where
+pub record Ends (limit : ℕ) (i : Input) (w : List ℕ) (n : ℕ) (r : Checked ℕ) : Type 0 where
   pub answer : r ≡ went_of (walk_of limit i)
   pub ended : (t : State) → walk_of limit i ≡ going t → Ended i.nodes w n (length t.merged) (graph i) t
 
 -- a refusal, or how many nodes and roots the result has
-unfoldable pub joined_of : Option Reply → Result → Joined
-joined_of (Some r) x = Refused r
-joined_of None x = Whole (length x.nodes) (length x.roots)
+unfoldable pub joined_of : Option Reply → Result → Checked (ℕ × ℕ)
+joined_of (Some r) x = Err r
+joined_of None x = Ok (length x.nodes, length x.roots)
 
 -- the answer to all checks behind the sizes is r; if none refuses, the room w holds the result
-pub record Joins (limit : ℕ) (i : Input) (records starts : ℕ) (w : List ℕ) (n : ℕ) (r : Joined) : Type 0 where
+pub record Joins (limit : ℕ) (i : Input) (records starts : ℕ) (w : List ℕ) (n : ℕ) (r : Checked (ℕ × ℕ)) : Type 0 where
   pub answer : r ≡ joined_of (first (later_checks limit i records starts)) (result_of limit i)
   pub settled : first (later_checks limit i records starts) ≡ None
       → Settled i.nodes w n (length (result_of limit i).nodes) (length (result_of limit i).roots) (graph i) (roots_of i) (state_of (walk_of limit i))

@@ -1,6 +1,6 @@
 -- The walk in the work room: the graph that records and bases give, and how the room holds the walk's state.
 -- Assumes nothing: these are definitions.
-use Rattle.std.specs.Prelude.{ℕ, ◌+◌, ◌-◌, ◌*◌, ◌/◌, ◌<◌, ◌≤◌, ◌≡◌, Bool, true, false, not, length, get_or, Option, Some, None}
+use Rattle.std.specs.Prelude.{ℕ, ◌+◌, ◌-◌, ◌*◌, ◌/◌, ◌<◌, ◌≤◌, ◌≡◌, Bool, true, false, not, length, get_or, Option, Some, None, Ok, Err}
 use mathlib.Core.List.{List, [], ◌∷◌, Memᴰ}
 use Rattle.record.specs.Lists.{run}
 use Rattle.record.specs.Node.{fields, size, node_at, nodes_of, is_external, children, renumber}
@@ -10,15 +10,15 @@ use Rattle.forest.specs.Lent.{work_words, most}
 use Rattle.forest.specs.Lists.{has, keep, last_of}
 use Rattle.forest.specs.Merge.{root_sum}
 use Rattle.forest.specs.Walk.{State, Walked, going, cycle, deep, id_in, id_of, finish, onward, each, visit}
+use Rattle.forest.specs.declared.Reply.TheVariants.{Cycle, TooDeep}
 use Rattle.claims.specs.Children.{Bare}
 use Rattle.claims.specs.Sound.{Sound, Finished}
 use Rattle.room.specs.Sections.{span, Puts}
 use Rattle.sorting.specs.Promises.{Shelf}
 use Rattle.sorting.specs.Digests.{holds}
+use Rattle.dense_order.specs.Found.{Checked}
 use Rattle.merger.specs.Sections.{sources_at, bases_at, holders_at, spare_at}
 use Rattle.merger.specs.Table.{starts}
-use Rattle.merger.specs.declared.Went.{Went}
-use Rattle.merger.specs.declared.Went.TheVariants.{On, Cycle, TooDeep}
 
 -- records and bases give the graph g of n nodes, whose steps stay in it
 pub record Mapped (s w : List ℕ) (n : ℕ) (g : List Node) : Type 0 where
@@ -141,10 +141,10 @@ unfoldable pub under : List Node → ℕ → List ℕ → ℕ → State → Walk
 under g d path p t = onward (each (visit g d (p ∷ path)) (next g p) t) (λ u. going (finish g p u))
 
 -- what a walk says
-unfoldable pub went_of : Walked → Went
-went_of (going t) = On (length t.merged)
-went_of (cycle p) = Cycle p
-went_of (deep p) = TooDeep p
+unfoldable pub went_of : Walked → Checked ℕ
+went_of (going t) = Ok (length t.merged)
+went_of (cycle p) = Err (Cycle p)
+went_of (deep p) = Err (TooDeep p)
 
 -- the room has come from w to w', which holds u; nothing from the bases on has changed
 pub record Came (g : List Node) (w w' : List ℕ) (n : ℕ) (path : List ℕ) (u : State) : Type 0 where
@@ -152,7 +152,7 @@ pub record Came (g : List Node) (w w' : List ℕ) (n : ℕ) (path : List ℕ) (u
   pub rest : (y : ℕ) → bases_at n ≤ y → get_or w' y 0 ≡ get_or w y 0
 
 -- the walk goes to o, and the room with it
-pub record Walks (g : List Node) (w w' : List ℕ) (n : ℕ) (path : List ℕ) (o : Walked) (r : Went) : Type 0 where
+pub record Walks (g : List Node) (w w' : List ℕ) (n : ℕ) (path : List ℕ) (o : Walked) (r : Checked ℕ) : Type 0 where
   pub answer : r ≡ went_of o
   pub came : (u : State) → o ≡ going u → Came g w w' n path u
 

@@ -8,9 +8,8 @@ ghost use Rattle.merger.specs.Steps.{size_checks, range_checks};
 ghost use Rattle.merger.specs.Table.{Few};
 
 use crate::{MOST_DEPTH, MOST_FORESTS, table};
-use dense_order::{Check, Far, MOST, WORK_WORDS};
+use dense_order::{MOST, WORK_WORDS};
 use forest::Reply;
-use room::Place;
 
 // Refuses a bad limit, too many nodes, roots or forests, and the lowest buffer whose length is wrong.
 pub(crate) fn sizes(
@@ -20,51 +19,51 @@ pub(crate) fn sizes(
     limit: u32,
     ids: usize,
     work: usize,
-) -> Check
+) -> Result<(), Reply>
     ensures { result ≡ check_of (first (size_checks limit table.now (length nodes.now) (length roots.now) ids work)) }
 {
     if !((1 <= limit) & (limit <= MOST_DEPTH)) {
-        return Check::Refused(Reply::BadLimit);
+        return Err(Reply::BadLimit);
     }
     if MOST_FORESTS < table.len() / record::ROW_SIZE {
-        return Check::Refused(Reply::TooMany);
+        return Err(Reply::TooMany);
     }
     let sums = table::last(table);
     if (MOST < sums.nodes) | (MOST < sums.roots) {
-        return Check::Refused(Reply::TooMany);
+        return Err(Reply::TooMany);
     }
     if table.len() % record::ROW_SIZE != 0 {
-        return Check::Refused(Reply::BadBuffers(1));
+        return Err(Reply::BadBuffers(1));
     }
     if nodes.len() != record::SIZE * sums.nodes {
-        return Check::Refused(Reply::BadBuffers(2));
+        return Err(Reply::BadBuffers(2));
     }
     if roots.len() != sums.roots {
-        return Check::Refused(Reply::BadBuffers(3));
+        return Err(Reply::BadBuffers(3));
     }
     if ids != sums.nodes {
-        return Check::Refused(Reply::BadBuffers(6));
+        return Err(Reply::BadBuffers(6));
     }
     if work < WORK_WORDS * sums.nodes {
-        return Check::Refused(Reply::BadBuffers(7));
+        return Err(Reply::BadBuffers(7));
     }
-    Check::Passed
+    Ok(())
 }
 
 // Refuses a bad record, a root past its forest's end and a child past it.
-pub(crate) fn examined(table: &[u8], nodes: &[u8], roots: &[u32]) -> Check
+pub(crate) fn examined(table: &[u8], nodes: &[u8], roots: &[u32]) -> Result<(), Reply>
     requires few { Few table.now }
     requires nodes_len { (length nodes.now ≡ size * node_sum table.now) × (length roots.now ≡ root_sum table.now) }
     ensures { result ≡ check_of (first (range_checks (record { table = table.now; nodes = nodes.now; roots = roots.now }))) }
 {
-    if let Place::At(p) = dense_order::first_bad(nodes) {
-        return Check::Refused(Reply::BadRecord(p as u64));
+    if let Some(p) = dense_order::first_bad(nodes) {
+        return Err(Reply::BadRecord(p as u64));
     }
-    if let Place::At(k) = table::far_root(table, roots) {
-        return Check::Refused(Reply::RootRange(k as u64));
+    if let Some(k) = table::far_root(table, roots) {
+        return Err(Reply::RootRange(k as u64));
     }
-    if let Far::At(p, child) = table::far_child(table, nodes) {
-        return Check::Refused(Reply::ChildRange(p as u64, child as u64));
+    if let Some((p, child)) = table::far_child(table, nodes) {
+        return Err(Reply::ChildRange(p as u64, child as u64));
     }
-    Check::Passed
+    Ok(())
 }

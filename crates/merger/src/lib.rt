@@ -6,7 +6,6 @@ ghost use Rattle.record.specs.Node.{size};
 ghost use Rattle.forest.specs.Merge.{merge as merge_of};
 ghost use Rattle.merger.specs.Steps.{Sized, Past, Ends, Joins};
 
-use dense_order::Check;
 use forest::Reply;
 
 mod checks;
@@ -60,23 +59,15 @@ struct Cursor {
     roots: usize,
 }
 
-// What a walk answers: how many nodes are merged, the open node that it met again, or the node that it was to open at the limit.
-#[derive(Clone, Copy)]
-enum Went {
-    On(usize),
-    Cycle(usize),
-    TooDeep(usize),
-}
-
-// What is merged: how many nodes and roots, or a refusal.
-#[derive(Clone, Copy)]
-enum Joined {
-    Whole(usize, usize),
-    Refused(Reply),
-}
-
-// Walks all forests in a room of zeros.
-fn walked(table: &[u8], nodes: &[u8], roots: &[u32], limit: u32, work: &mut [u32], n: usize) -> Went
+// Walks all forests in a room of zeros; says how many nodes are merged.
+fn walked(
+    table: &[u8],
+    nodes: &[u8],
+    roots: &[u32],
+    limit: u32,
+    work: &mut [u32],
+    n: usize,
+) -> Result<usize, Reply>
     requires past { Past limit (record { table = table.now; nodes = nodes.now; roots = roots.now }) work.old }
     requires n_value { n ≡ length nodes.now / size }
     ensures { Ends limit (record { table = table.now; nodes = nodes.now; roots = roots.now }) work.new n result }
@@ -87,7 +78,7 @@ fn walked(table: &[u8], nodes: &[u8], roots: &[u32], limit: u32, work: &mut [u32
     multi_forest_node_iterator::walk_roots(table, nodes, roots, work, n, holders, limit)
 }
 
-// Merges in the room, unless a record is bad, a root or a child past the end, the walk stops, or the outputs are short.
+// Merges in the room and says how many nodes and roots the result has, unless a record is bad, a root or a child past the end, the walk stops, or the outputs are short.
 fn merged(
     table: &[u8],
     nodes: &[u8],
@@ -96,26 +87,18 @@ fn merged(
     work: &mut [u32],
     records: usize,
     starts: usize,
-) -> Joined
+) -> Result<(usize, usize), Reply>
     requires { Sized limit (record { table = table.now; nodes = nodes.now; roots = roots.now }) work.old }
     ensures { Joins limit (record { table = table.now; nodes = nodes.now; roots = roots.now }) records starts work.new (length nodes.now / size) result }
 {
-    if let Check::Refused(reply) = checks::examined(table, nodes, roots) {
-        return Joined::Refused(reply);
-    }
+    checks::examined(table, nodes, roots)?;
     let n = nodes.len() / record::SIZE;
-    let went = walked(table, nodes, roots, limit, work, n);
-    match went {
-        Went::Cycle(p) => Joined::Refused(Reply::Cycle(p as u64)),
-        Went::TooDeep(p) => Joined::Refused(Reply::TooDeep(p as u64)),
-        Went::On(m) => {
-            let count = result::settle(table, nodes, roots, work, n, m);
-            if (records < m) | (starts < count) {
-                return Joined::Refused(Reply::NoRoom(m as u64, count as u64));
-            }
-            Joined::Whole(m, count)
-        }
+    let m = walked(table, nodes, roots, limit, work, n)?;
+    let count = result::settle(table, nodes, roots, work, n, m);
+    if (records < m) | (starts < count) {
+        return Err(Reply::NoRoom(m as u64, count as u64));
     }
+    Ok((m, count))
 }
 
 // Many forests into one: a bad limit, too many, sizes, a bad record, a root or a child past the end, a cycle or too deep, no room.
@@ -138,17 +121,15 @@ pub fn merge(
         } }
 {
     let records = node_out.len() / record::SIZE;
-    let checked = checks::sizes(table, nodes, roots, limit, ids.len(), work.len());
-    if let Check::Refused(reply) = checked {
+    if let Err(reply) = checks::sizes(table, nodes, roots, limit, ids.len(), work.len()) {
         return reply;
     }
-    let done = merged(table, nodes, roots, limit, work, records, root_out.len());
-    match done {
-        Joined::Refused(reply) => {
+    match merged(table, nodes, roots, limit, work, records, root_out.len()) {
+        Err(reply) => {
             room::clear(work);
             reply
         }
-        Joined::Whole(m, count) => {
+        Ok((m, count)) => {
             let n = nodes.len() / record::SIZE;
             deliver::deliver(nodes, work, n, m, count, node_out, root_out, ids);
             room::clear(work);

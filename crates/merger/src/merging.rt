@@ -5,13 +5,11 @@ ghost use Rattle.record.specs.Node.{fields, children, same_node};
 ghost use Rattle.record.specs.declared.Node.{Node};
 ghost use Rattle.forest.specs.Lists.{lowest};
 ghost use Rattle.forest.specs.Walk.{State, finish};
-ghost use Rattle.room.specs.Places.{place_of};
 ghost use Rattle.merger.specs.Sections.{sources_at};
 ghost use Rattle.merger.specs.Walking.{Roomy, Readable, merged_at, Pushing, Pushable, Came};
 
 use crate::{BASES, SOURCES};
 use record::{FIELDS, Node};
-use room::Place;
 
 // The node at position p with the ids of its children, which are finished.
 pub(crate) fn merged_node(nodes: &[u8], work: &[u32], n: usize, p: usize) -> Node
@@ -80,21 +78,21 @@ fn is_like(nodes: &[u8], work: &[u32], n: usize, node: Node, q: usize) -> bool
 }
 
 // The lowest merged id whose node is like this one.
-fn find_equal(nodes: &[u8], work: &[u32], n: usize, node: Node, count: usize) -> Place
+fn find_equal(nodes: &[u8], work: &[u32], n: usize, node: Node, count: usize) -> Option<usize>
     requires roomy { Roomy nodes.now work.now n }
     requires count_le_n { count ≤ n }
     requires by_index { (k : ℕ) → k < count → Readable nodes.now work.now n (get_or work.now (sources_at n + k) 0) }
     requires count_le_fields { node.count ≤ fields }
-    ensures { result ≡ place_of (lowest (same_node node) (map (λ k. merged_at nodes.now work.now n (get_or work.now (sources_at n + k) 0)) (run 0 count))) }
+    ensures { result ≡ lowest (same_node node) (map (λ k. merged_at nodes.now work.now n (get_or work.now (sources_at n + k) 0)) (run 0 count)) }
 {
     let mut k = 0;
     while k < count {
         if is_like(nodes, work, n, node, work[SOURCES * n + k] as usize) {
-            return Place::At(k);
+            return Some(k);
         }
         k += 1;
     }
-    Place::Nothing
+    None
 }
 
 // Step 3: finishes position p with the id of an equal earlier node, else appends it; says how many nodes are merged.
@@ -103,7 +101,7 @@ pub(crate) fn push(nodes: &[u8], work: &mut [u32], n: usize, p: usize, count: us
     ensures { (g : List Node) (path : List ℕ) (t : State) → Pushing nodes.now work.old n count p g path t → (result ≡ length (finish g p t).merged) × Came g work.old work.new n path (finish g p t) }
 {
     let node = merged_node(nodes, work, n, p);
-    if let Place::At(k) = find_equal(nodes, work, n, node, count) {
+    if let Some(k) = find_equal(nodes, work, n, node, count) {
         work[p] = (k + 2) as u32;
         return count;
     }

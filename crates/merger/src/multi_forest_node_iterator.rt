@@ -5,13 +5,12 @@ ghost use Rattle.record.specs.Node.{nodes_of};
 ghost use Rattle.record.specs.declared.Node.{Node};
 ghost use Rattle.forest.specs.Graph.{replacement as replacement_of};
 ghost use Rattle.forest.specs.Walk.{State, visit, walk};
-ghost use Rattle.room.specs.Places.{place_of};
 ghost use Rattle.merger.specs.Table.{Few, starts};
 ghost use Rattle.merger.specs.Walking.{Roomy, Lists, Shelved, Held, Charted, Somewhere, Inside, Stands, under, Walks, Begun};
 
-use crate::{BASES, EXTERNAL, HOLDERS, SPARE, Went, merging, table};
+use crate::{BASES, EXTERNAL, HOLDERS, SPARE, merging, table};
+use forest::Reply;
 use record::{Node, WORDS};
-use room::Place;
 
 // Lists the non-externals; says how many they are.
 fn list_holders(nodes: &[u8], work: &mut [u32], n: usize) -> usize
@@ -43,9 +42,15 @@ pub(crate) fn sort_holders(nodes: &[u8], work: &mut [u32], n: usize) -> usize
 }
 
 // Step 1: the highest position with a non-external of this digest.
-fn replacement(nodes: &[u8], work: &[u32], n: usize, holders: usize, digest: [u64; WORDS]) -> Place
+fn replacement(
+    nodes: &[u8],
+    work: &[u32],
+    n: usize,
+    holders: usize,
+    digest: [u64; WORDS],
+) -> Option<usize>
     requires { Held nodes.now work.now n holders }
-    ensures { result ≡ place_of (replacement_of (nodes_of nodes.now) digest) }
+    ensures { result ≡ replacement_of (nodes_of nodes.now) digest }
 {
     sorting::find(nodes, work, HOLDERS * n, holders, digest)
 }
@@ -60,20 +65,20 @@ fn open_node(
     p: usize,
     left: u32,
     count: usize,
-) -> Went
+) -> Result<usize, Reply>
     requires somewhere { Somewhere nodes.now work.old n holders count }
     requires p_lt_n { p < n }
     ensures { (g : List Node) (path : List ℕ) (t : State) → Stands nodes.now work.old n holders count g path t → Walks g work.old work.new n path (visit g left path p t) result }
 {
     let state = work[p];
     if 1 < state {
-        return Went::On(count);
+        return Ok(count);
     }
     if state == 1 {
-        return Went::Cycle(p);
+        return Err(Reply::Cycle(p as u64));
     }
     if left == 0 {
-        return Went::TooDeep(p);
+        return Err(Reply::TooDeep(p as u64));
     }
     work[p] = 1;
     walk_below(nodes, work, n, holders, p, left - 1, count)
@@ -89,7 +94,7 @@ fn walk_below(
     p: usize,
     left: u32,
     count: usize,
-) -> Went
+) -> Result<usize, Reply>
     requires inside { Inside nodes.now work.old n holders count p }
     requires p_lt_n { p < n }
     ensures { (g : List Node) (path : List ℕ) (t : State) → Stands nodes.now work.old n holders count g (p ∷ path) t → ¬ Memᴰ p path → Walks g work.old work.new n path (under g left path p t) result }
@@ -97,16 +102,12 @@ fn walk_below(
     let node = record::node_at(nodes, p);
     if node.kind == EXTERNAL {
         let digest = node.digest;
-        let found = replacement(nodes, work, n, holders, digest);
-        let Place::At(q) = found else {
-            return Went::On(merging::push(nodes, work, n, p, count));
+        let Some(q) = replacement(nodes, work, n, holders, digest) else {
+            return Ok(merging::push(nodes, work, n, p, count));
         };
-        let went = open_node(nodes, work, n, holders, q, left, count);
-        let Went::On(merged) = went else {
-            return went;
-        };
+        let merged = open_node(nodes, work, n, holders, q, left, count)?;
         work[p] = work[q];
-        return Went::On(merged);
+        return Ok(merged);
     }
     let base = work[BASES * n + p] as usize;
     let kids = node.kids;
@@ -114,7 +115,7 @@ fn walk_below(
     let mut merged = count;
     let mut i = 0;
     while i < children {
-        let went = open_node(
+        merged = open_node(
             nodes,
             work,
             n,
@@ -122,14 +123,10 @@ fn walk_below(
             base + kids[i] as usize,
             left,
             merged,
-        );
-        let Went::On(more) = went else {
-            return went;
-        };
-        merged = more;
+        )?;
         i += 1;
     }
-    Went::On(merging::push(nodes, work, n, p, merged))
+    Ok(merging::push(nodes, work, n, p, merged))
 }
 
 // Takes the roots of all forests in their order.
@@ -141,7 +138,7 @@ pub(crate) fn walk_roots(
     n: usize,
     holders: usize,
     limit: u32,
-) -> Went
+) -> Result<usize, Reply>
     requires few { Few table.now }
     requires begun { Begun table.now nodes.now roots.now work.old n holders }
     ensures { (g : List Node) → Charted nodes.now work.old n holders g → Walks g work.old work.new n [] (walk g limit (starts table.now roots.now)) result }
@@ -151,7 +148,7 @@ pub(crate) fn walk_roots(
     let mut k = 0;
     while k < roots.len() {
         at = table::at_root(table, at, k);
-        let went = open_node(
+        merged = open_node(
             nodes,
             work,
             n,
@@ -159,12 +156,8 @@ pub(crate) fn walk_roots(
             at.base + roots[k] as usize,
             limit,
             merged,
-        );
-        let Went::On(more) = went else {
-            return went;
-        };
-        merged = more;
+        )?;
         k += 1;
     }
-    Went::On(merged)
+    Ok(merged)
 }

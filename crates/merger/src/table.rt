@@ -5,14 +5,11 @@ ghost use Rattle.record.specs.declared.Node.{Node};
 ghost use Rattle.forest.specs.Graph.{forests, far_root, far_child};
 ghost use Rattle.forest.specs.Lent.{work_words, most};
 ghost use Rattle.forest.specs.Merge.{node_sum, root_sum};
-ghost use Rattle.room.specs.Places.{place_of};
 ghost use Rattle.dense_order.specs.Found.{far_of};
 ghost use Rattle.merger.specs.Table.{Few, On, ToNode, ToRoot, AtNode, AtRoot, Bases};
 
 use crate::{BASES, Cursor};
-use dense_order::{Far, Kid};
 use record::Row;
-use room::Place;
 
 // The place before the first row.
 pub(crate) fn start() -> Cursor
@@ -84,28 +81,28 @@ pub(crate) fn at_root(table: &[u8], from: Cursor, k: usize) -> Cursor
 }
 
 // The lowest place of a root that names no node of its forest.
-pub(crate) fn far_root(table: &[u8], roots: &[u32]) -> Place
+pub(crate) fn far_root(table: &[u8], roots: &[u32]) -> Option<usize>
     requires few { Few table.now }
     requires roots_len { length roots.now ≡ root_sum table.now }
-    ensures { (ns : List Node) → result ≡ place_of (far_root (forests 0 (rows_of table.now) ns roots.now)) }
+    ensures { (ns : List Node) → result ≡ far_root (forests 0 (rows_of table.now) ns roots.now) }
 {
     let mut at = start();
     let mut k = 0;
     while k < roots.len() {
         at = at_root(table, at, k);
         if at.nodes - at.base <= roots[k] as usize {
-            return Place::At(k);
+            return Some(k);
         }
         k += 1;
     }
-    Place::Nothing
+    None
 }
 
 // The first node with a child past its forest's end, and its last such child.
-pub(crate) fn far_child(table: &[u8], nodes: &[u8]) -> Far
+pub(crate) fn far_child(table: &[u8], nodes: &[u8]) -> Option<(usize, u32)>
     requires few { Few table.now }
     requires nodes_len { length nodes.now ≡ size * node_sum table.now }
-    ensures { (rs : List ℕ) → result ≡ far_of (far_child (forests 0 (rows_of table.now) (nodes_of nodes.now) rs)) }
+    ensures { (rs : List ℕ) → result ≡ far_child (forests 0 (rows_of table.now) (nodes_of nodes.now) rs) }
 {
     let n = nodes.len() / record::SIZE;
     let mut at = start();
@@ -113,12 +110,12 @@ pub(crate) fn far_child(table: &[u8], nodes: &[u8]) -> Far
     while p < n {
         at = at_node(table, at, p);
         let node = record::node_at(nodes, p);
-        if let Kid::Child(child) = dense_order::last_from(node, at.nodes - at.base) {
-            return Far::At(p, child);
+        if let Some(child) = dense_order::last_from(node, at.nodes - at.base) {
+            return Some((p, child));
         }
         p += 1;
     }
-    Far::Nowhere
+    None
 }
 
 // Writes for each position the position of the first node of its forest.

@@ -5,10 +5,8 @@
 ghost use Rattle.std.specs.Prelude.{◌≡◌, true, false, not, ◌<◌, ◌≤◌, eqb};
 ghost use Rattle.record.specs.Lists.{run};
 ghost use Rattle.forest.specs.Lists.{lowest};
-ghost use Rattle.room.specs.Places.{place_of};
 ghost use Rattle.ready.specs.Tree.{words, word, member, Tree, Changed};
 
-use room::Place;
 
 // The bits of a word.
 const WIDTH: usize = 32;
@@ -48,31 +46,28 @@ pub fn remove(work: &mut [u32], at: usize, n: usize, i: usize)
 
 // The first word of a row that is not 0.
 #[cycle(first_word_lowest)]
-fn first_word(work: &[u32], at: usize, n: usize) -> Place
+fn first_word(work: &[u32], at: usize, n: usize) -> Option<usize>
     requires le_n { 1 ≤ n }
     requires tree { Tree work.now at n }
-    ensures { result ≡ place_of (lowest (λ k. not (eqb (word work.now at k) 0)) (run 0 (words n))) }
+    ensures { result ≡ lowest (λ k. not (eqb (word work.now at k) 0)) (run 0 (words n)) }
 {
     if WIDTH < n {
         let words = (n - 1) / WIDTH + 1;
         return lowest(work, at + words, words);
     }
     if work[at] == 0 {
-        return Place::Nothing;
+        return None;
     }
-    Place::At(0)
+    Some(0)
 }
 
 // The lowest id in the set, from one look at each row.
 #[cycle(first_word_lowest)]
-pub fn lowest(work: &[u32], at: usize, n: usize) -> Place
+pub fn lowest(work: &[u32], at: usize, n: usize) -> Option<usize>
     requires le_n { 1 ≤ n }
     requires tree { Tree work.now at n }
-    ensures { result ≡ place_of (lowest (member work.now at n) (run 0 n)) }
+    ensures { result ≡ lowest (member work.now at n) (run 0 n) }
 {
-    let found = first_word(work, at, n);
-    let Place::At(k) = found else {
-        return Place::Nothing;
-    };
-    Place::At(WIDTH * k + u32::trailing_zeros(work[at + k]) as usize)
+    let k = first_word(work, at, n)?;
+    Some(WIDTH * k + u32::trailing_zeros(work[at + k]) as usize)
 }

@@ -1,15 +1,8 @@
-// Sections of a lent work room: clearing and copying them; and what a search in it answers.
+// Sections of a lent work room: clearing and copying them.
 #![tactic(auto)]
 
 ghost use Rattle.std.specs.Prelude.{◌≡◌, ◌+◌, ◌≤◌, length, replicate};
 ghost use Rattle.room.specs.Sections.{span, Apart, Puts};
-
-// A place, or that there is none.
-#[derive(Clone, Copy)]
-pub enum Place {
-    At(usize),
-    Nothing,
-}
 
 // Sets every word to 0.
 pub fn clear(work: &mut [u32])

@@ -1,6 +1,6 @@
+use Rattle.std.specs.Prelude.{Ok, Err}
 use mathlib.Core.Path.{◌≡◌, sym, ◌∙◌}
 use borrow.Author.Rules.{rules}
-use Rattle.dense_order.specs.declared.Check.TheVariants.{Passed, Refused}
 use Rattle.dense_order.proofs.Refusals.{too_many, part_record, records_refused, records_passed}
 use Rattle.dense_order.proofs.validate.Goals as goal
 
@@ -14,11 +14,11 @@ pub returns-in-Refused : goal.returns-in-Refused
 returns-in-Refused c =
     let v = c.validate_records in
     let reply = c.in-Refused.reply in
-    let e : v.result ≡ Refused reply = search rules in
+    let e : v.result ≡ Err reply = search rules in
     records_refused c.args.nodes.now c.if-n-gt-MOST.false c.if-nodes-ne0.false reply (sym v.ensures ∙ e)
 
 pub returns : goal.returns
 returns c =
     let v = c.validate_records in
-    let e : v.result ≡ Passed = search rules in
+    let e : v.result ≡ (Ok tt) = search rules in
     records_passed c.args.nodes.now c.if-n-gt-MOST.false c.if-nodes-ne0.false (sym v.ensures ∙ e)

@@ -1,9 +1,9 @@
+use Rattle.std.specs.Prelude.{Ok, Err}
 use mathlib.Core.Path.{◌≡◌, ap, sym, ◌∙◌}
 use mathlib.Core.Bool.{true, false}
 use native.Mathlib.Omega.{arith}
 use borrow.Author.Rules.{rules}
 use Rattle.record.specs.Node.{node_at, bad}
-use Rattle.dense_order.specs.declared.Check.TheVariants.{Passed, Refused}
 use Rattle.dense_order.proofs.Faults.{none_ordered, first_refused, first_ordered, next_refused, next_ordered, all_ordered}
 use Rattle.dense_order.proofs.Lowest.{seeking_start, seeking_found, seeking_step, seeking_end}
 use Rattle.dense_order.proofs.Refusals.{record_bad, order_refused, both_passed}
@@ -19,7 +19,7 @@ returns-in-Refused c =
     let s = c.args.nodes.now in
     let f = c.forward in
     let reply = c.in-Refused.reply in
-    let e : f.result ≡ Refused reply = search rules in
+    let e : f.result ≡ Err reply = search rules in
     order_refused s reply _ (first_refused s (omega arith) reply (sym f.ensures ∙ e)) c.bad_first.ensures
 
 pub returns-then-bad : goal.returns-then-bad
@@ -33,7 +33,7 @@ loop-i-init c =
     let s = c.args.nodes.now in
     let e : bad (node_at s 0) ≡ false = sym (ap bad c.node_at.ensures) ∙ sym c.bad.ensures ∙ c.if-bad.false in
     let f = c.forward in
-    let g : f.result ≡ Passed = search rules in
+    let g : f.result ≡ (Ok tt) = search rules in
     (seeking_step s 0 (seeking_start s) (omega arith) e, first_ordered s (omega arith) (sym f.ensures ∙ g))
 
 pub returns-then-bad-2 : goal.returns-then-bad-2
@@ -52,7 +52,7 @@ returns-in-Refused-fault c =
     let l = c.loop-i in
     let f = c.fault in
     let reply = c.in-Refused-fault.reply in
-    let e : f.result ≡ Refused reply = search rules in
+    let e : f.result ≡ Err reply = search rules in
     order_refused s reply _ (next_refused s l.i l.invariant.1 c.loop-i-test.true reply (sym f.ensures ∙ e)) c.bad_first-in-Refused-fault.ensures
 
 pub loop-i-preserved : goal.loop-i-preserved
@@ -61,7 +61,7 @@ loop-i-preserved c =
     let l = c.loop-i in
     let e : bad (node_at s l.i) ≡ false = sym (ap bad c.node_at-in-loop-i.ensures) ∙ sym c.bad-in-loop-i.ensures ∙ c.if-bad-2.false in
     let f = c.fault in
-    let g : f.result ≡ Passed = search rules in
+    let g : f.result ≡ (Ok tt) = search rules in
     let h = c.loop-i-test.true in
     (seeking_step s l.i l.invariant.0 h e, next_ordered s l.i l.invariant.1 h (sym f.ensures ∙ g))
 

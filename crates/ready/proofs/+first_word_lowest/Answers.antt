@@ -1,8 +1,6 @@
 use Rattle.ready.proofs.Firsts.{first_none, first_some_lem, first_above, asks_first, id_none, in_row, id_below, id_some}
 use Rattle.ready.proofs.Trees.{row_of}
-use Rattle.room.proofs.Answers.{at_some, nothing_none}
-use Rattle.room.specs.Places.{place_of}
-use mathlib.Core.Path.{ap, ◌∙◌}
+use mathlib.Core.Path.{◌∙◌, sym}
 use Prim.Native.Nat.{◌+◌}
 use native.Mathlib.Omega.{arith}
 use borrow.Author.Rules.{rules}
@@ -17,7 +15,7 @@ first_word-lowest-requires t c =
     (omega (arith, a.0), a.1)
 
 pub first_word-returns-then-n-gt-WIDTH : goal.first_word-returns-then-n-gt-WIDTH
-first_word-returns-then-n-gt-WIDTH t c = c.lowest.ensures ∙ ap place_of (first_above c.requires.tree c.if-n-gt-WIDTH.true)
+first_word-returns-then-n-gt-WIDTH t c = c.lowest.ensures ∙ first_above c.requires.tree c.if-n-gt-WIDTH.true
 
 pub first_word-offset_bounds-work-at : goal.first_word-offset_bounds-work-at
 first_word-offset_bounds-work-at t c = omega (arith, (row_of c.requires.tree).fits, c.requires.le_n)
@@ -31,29 +29,29 @@ first_word-returns-then-work-at-eq0 t c = rw (first_none c.args.work.now c.args.
 pub first_word-returns : goal.first_word-returns
 first_word-returns t c = rw (first_some_lem c.args.work.now c.args.at c.args.n c.requires.le_n c.if-n-gt-WIDTH.false c.if-work-at-eq0.false)
 
-pub lowest-first_word-found-requires : goal.lowest-first_word-found-requires
-lowest-first_word-found-requires t c = (omega arith, (c.requires.le_n, c.requires.tree))
+pub lowest-first_word-requires : goal.lowest-first_word-requires
+lowest-first_word-requires t c = (omega arith, (c.requires.le_n, c.requires.tree))
 
-pub lowest-returns-in_default : goal.lowest-returns-in_default
-lowest-returns-in_default t c = rw (id_none c.requires.tree (nothing_none _ _ c.first_word-found.ensures (search rules)))
+pub lowest-returns-in_err-k : goal.lowest-returns-in_err-k
+lowest-returns-in_err-k t c = rw (id_none c.requires.tree (sym c.first_word.ensures ∙ c.in_err-k.was)) c.from_residual.ensures
 
 pub lowest-overflow_mul-result : goal.lowest-overflow_mul-result
-lowest-overflow_mul-result t c = let e = at_some _ _ c.in-At.k c.first_word-found.ensures (search rules) in omega (arith, id_below c.requires.tree e (c.type_inv.work (c.args.at + c.in-At.k)).fits)
+lowest-overflow_mul-result t c = let e = (sym c.first_word.ensures ∙ c.in_ok-k.was) in omega (arith, id_below c.requires.tree e (c.type_inv.work (c.args.at + c.in_ok-k.k)).fits)
 
 pub lowest-overflow_add-result : goal.lowest-overflow_add-result
-lowest-overflow_add-result t c = let e = at_some _ _ c.in-At.k c.first_word-found.ensures (search rules) in omega (arith, in_row c.requires.tree e (c.type_inv.work (c.args.at + c.in-At.k)).fits, (row_of c.requires.tree).fits)
+lowest-overflow_add-result t c = let e = (sym c.first_word.ensures ∙ c.in_ok-k.was) in omega (arith, in_row c.requires.tree e (c.type_inv.work (c.args.at + c.in_ok-k.k)).fits, (row_of c.requires.tree).fits)
 
 pub lowest-offset_bounds-work-at : goal.lowest-offset_bounds-work-at
-lowest-offset_bounds-work-at t c = let e = at_some _ _ c.in-At.k c.first_word-found.ensures (search rules) in omega (arith, in_row c.requires.tree e (c.type_inv.work (c.args.at + c.in-At.k)).fits, (row_of c.requires.tree).fits)
+lowest-offset_bounds-work-at t c = let e = (sym c.first_word.ensures ∙ c.in_ok-k.was) in omega (arith, in_row c.requires.tree e (c.type_inv.work (c.args.at + c.in_ok-k.k)).fits, (row_of c.requires.tree).fits)
 
 pub lowest-bounds-work-at : goal.lowest-bounds-work-at
-lowest-bounds-work-at t c = let e = at_some _ _ c.in-At.k c.first_word-found.ensures (search rules) in omega (arith, in_row c.requires.tree e (c.type_inv.work (c.args.at + c.in-At.k)).fits, (row_of c.requires.tree).fits)
+lowest-bounds-work-at t c = let e = (sym c.first_word.ensures ∙ c.in_ok-k.was) in omega (arith, in_row c.requires.tree e (c.type_inv.work (c.args.at + c.in_ok-k.k)).fits, (row_of c.requires.tree).fits)
 
 pub lowest-overflow_cast-result : goal.lowest-overflow_cast-result
-lowest-overflow_cast-result t c = let e = at_some _ _ c.in-At.k c.first_word-found.ensures (search rules) in omega (arith, id_below c.requires.tree e (c.type_inv.work (c.args.at + c.in-At.k)).fits)
+lowest-overflow_cast-result t c = let e = (sym c.first_word.ensures ∙ c.in_ok-k.was) in omega (arith, id_below c.requires.tree e (c.type_inv.work (c.args.at + c.in_ok-k.k)).fits)
 
 pub lowest-overflow_add-result-2 : goal.lowest-overflow_add-result-2
-lowest-overflow_add-result-2 t c = let e = at_some _ _ c.in-At.k c.first_word-found.ensures (search rules) in omega (arith, id_below c.requires.tree e (c.type_inv.work (c.args.at + c.in-At.k)).fits)
+lowest-overflow_add-result-2 t c = let e = (sym c.first_word.ensures ∙ c.in_ok-k.was) in omega (arith, id_below c.requires.tree e (c.type_inv.work (c.args.at + c.in_ok-k.k)).fits)
 
 pub lowest-returns : goal.lowest-returns
-lowest-returns t c = let e = at_some _ _ c.in-At.k c.first_word-found.ensures (search rules) in rw (id_some c.requires.tree e (c.type_inv.work (c.args.at + c.in-At.k)).fits)
+lowest-returns t c = let e = (sym c.first_word.ensures ∙ c.in_ok-k.was) in rw (id_some c.requires.tree e (c.type_inv.work (c.args.at + c.in_ok-k.k)).fits)

@@ -1,6 +1,6 @@
+use Rattle.std.specs.Prelude.{Some, None}
 use mathlib.Core.Path.{◌≡◌, sym, ◌∙◌}
 use borrow.Author.Rules.{rules}
-use Rattle.dense_order.specs.declared.Kid.TheVariants.{Child, Childless}
 use Rattle.dense_order.proofs.ChildRange.{near_start, near_found, near_step, near_end}
 use Rattle.dense_order.proofs.ranges.far_child.Goals as goal
 
@@ -12,14 +12,14 @@ returns-in-Child c =
     let l = c.loop-i in
     let k = c.last_from in
     let child = c.in-Child.child in
-    let e : k.result ≡ Child child = search rules in
+    let e : k.result ≡ Some child = search rules in
     near_found c.args.nodes.now l.i l.invariant c.loop-i-test.true _ c.node_at-node.ensures child (sym k.ensures ∙ e)
 
 pub loop-i-preserved : goal.loop-i-preserved
 loop-i-preserved c =
     let l = c.loop-i in
     let k = c.last_from in
-    let e : k.result ≡ Childless = search rules in
+    let e : k.result ≡ None = search rules in
     near_step c.args.nodes.now l.i l.invariant c.loop-i-test.true _ c.node_at-node.ensures (sym k.ensures ∙ e)
 
 pub returns : goal.returns

@@ -17,28 +17,28 @@ find_equal-requires c =
 pub overflow_add-work : goal.overflow_add-work
 overflow_add-work c =
     let q = c.requires.pushing in
-    let z = found_low q _ c.merged_node-node.ensures _ c.find_equal.ensures _ c.in-At.is in omega (arith, z, room_left q, q.below, q.mapped.few, q.mapped.room)
+    let z = found_low q _ c.merged_node-node.ensures _ c.find_equal.ensures _ c.in-Some.is in omega (arith, z, room_left q, q.below, q.mapped.few, q.mapped.room)
 
 pub overflow_cast-work : goal.overflow_cast-work
 overflow_cast-work c =
     let q = c.requires.pushing in
-    let z = found_low q _ c.merged_node-node.ensures _ c.find_equal.ensures _ c.in-At.is in omega (arith, z, room_left q, q.below, q.mapped.few, q.mapped.room)
+    let z = found_low q _ c.merged_node-node.ensures _ c.find_equal.ensures _ c.in-Some.is in omega (arith, z, room_left q, q.below, q.mapped.few, q.mapped.room)
 
 pub offset_bounds-work-p : goal.offset_bounds-work-p
 offset_bounds-work-p c =
     let q = c.requires.pushing in
-    let z = found_low q _ c.merged_node-node.ensures _ c.find_equal.ensures _ c.in-At.is in omega (arith, z, room_left q, q.below, q.mapped.few, q.mapped.room)
+    let z = found_low q _ c.merged_node-node.ensures _ c.find_equal.ensures _ c.in-Some.is in omega (arith, z, room_left q, q.below, q.mapped.few, q.mapped.room)
 
 pub bounds-work-p : goal.bounds-work-p
 bounds-work-p c =
     let q = c.requires.pushing in
-    let z = found_low q _ c.merged_node-node.ensures _ c.find_equal.ensures _ c.in-At.is in omega (arith, z, room_left q, q.below, q.mapped.few, q.mapped.room)
+    let z = found_low q _ c.merged_node-node.ensures _ c.find_equal.ensures _ c.in-Some.is in omega (arith, z, room_left q, q.below, q.mapped.few, q.mapped.room)
 
-pub shape_of-work-in-At : goal.shape_of-work-in-At
-shape_of-work-in-At c = simp length-set
+pub shape_of-work-in-Some : goal.shape_of-work-in-Some
+shape_of-work-in-Some c = simp length-set
 
-pub returns-in-At : goal.returns-in-At
-returns-in-At c = λ g path t q. pushed_equal q _ c.merged_node-node.ensures _ c.find_equal.ensures _ c.in-At.is
+pub returns-in-Some : goal.returns-in-Some
+returns-in-Some c = λ g path t q. pushed_equal q _ c.merged_node-node.ensures _ c.find_equal.ensures _ c.in-Some.is
 
 pub overflow_cast-work-2 : goal.overflow_cast-work-2
 overflow_cast-work-2 c = let q = c.requires.pushing in omega (arith, room_left q, q.below, q.mapped.few, q.mapped.room)

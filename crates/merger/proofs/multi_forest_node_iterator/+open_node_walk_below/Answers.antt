@@ -59,7 +59,7 @@ walk_below-returns-in_default t c =
 pub walk_below-open_node-went-requires : goal.walk_below-open_node-went-requires
 walk_below-open_node-went-requires t c =
     let a = c.requires.inside in
-    (omega (arith), (record { graph = a.graph; path = _; state = a.state; stands = a.stands }, replacement_low a.stands c.requires.p_lt_n c.args.left _ c.node_at-node.ensures c.if-node-eq-EXTERNAL.true _ c.replacement-found.ensures _ c.in-At.is))
+    (omega (arith), (record { graph = a.graph; path = _; state = a.state; stands = a.stands }, replacement_low a.stands c.requires.p_lt_n c.args.left _ c.node_at-node.ensures c.if-node-eq-EXTERNAL.true _ c.replacement-found.ensures _ c.in-Some.is))
 
 pub walk_below-shape_of-work-in_default-went : goal.walk_below-shape_of-work-in_default-went
 walk_below-shape_of-work-in_default-went t c = c.open_node-went.auto.work
@@ -67,16 +67,16 @@ walk_below-shape_of-work-in_default-went t c = c.open_node-went.auto.work
 pub walk_below-returns-in_default-went : goal.walk_below-returns-in_default-went
 walk_below-returns-in_default-went t c =
     λ g path u q new.
-    replacement_stops q c.requires.p_lt_n c.args.left _ c.node_at-node.ensures c.if-node-eq-EXTERNAL.true _ c.replacement-found.ensures _ c.in-At.is c.open_node-went.auto.work (c.open_node-went.ensures g _ u q) c.in_default-went.not-On
+    replacement_stops q c.requires.p_lt_n c.args.left _ c.node_at-node.ensures c.if-node-eq-EXTERNAL.true _ c.replacement-found.ensures _ c.in-Some.is c.open_node-went.auto.work (c.open_node-went.ensures g _ u q) c.in_default-went.not-On
 
 pub walk_below-offset_bounds-work-q : goal.walk_below-offset_bounds-work-q
 walk_below-offset_bounds-work-q t c =
-    let z : ◌<◌ c.in-At.q c.args.n = replacement_low c.requires.inside.stands c.requires.p_lt_n c.args.left _ c.node_at-node.ensures c.if-node-eq-EXTERNAL.true _ c.replacement-found.ensures _ c.in-At.is in
+    let z : ◌<◌ c.in-Some.q c.args.n = replacement_low c.requires.inside.stands c.requires.p_lt_n c.args.left _ c.node_at-node.ensures c.if-node-eq-EXTERNAL.true _ c.replacement-found.ensures _ c.in-Some.is in
     omega (arith, z, c.requires.inside.stands.charted.mapped.few)
 
 pub walk_below-bounds-work-q : goal.walk_below-bounds-work-q
 walk_below-bounds-work-q t c =
-    let low : ◌<◌ c.in-At.q c.args.n = replacement_low c.requires.inside.stands c.requires.p_lt_n c.args.left _ c.node_at-node.ensures c.if-node-eq-EXTERNAL.true _ c.replacement-found.ensures _ c.in-At.is in
+    let low : ◌<◌ c.in-Some.q c.args.n = replacement_low c.requires.inside.stands c.requires.p_lt_n c.args.left _ c.node_at-node.ensures c.if-node-eq-EXTERNAL.true _ c.replacement-found.ensures _ c.in-Some.is in
     omega (arith, low, c.requires.inside.stands.charted.mapped.room, c.open_node-went.auto.work)
 
 pub walk_below-offset_bounds-work-p : goal.walk_below-offset_bounds-work-p
@@ -91,7 +91,7 @@ walk_below-shape_of-work-then-node-eq-EXTERNAL t c = simp length-set c.open_node
 pub walk_below-returns-then-node-eq-EXTERNAL : goal.walk_below-returns-then-node-eq-EXTERNAL
 walk_below-returns-then-node-eq-EXTERNAL t c =
     λ g path u q new.
-    replacement_ends q c.requires.p_lt_n c.args.left _ c.node_at-node.ensures c.if-node-eq-EXTERNAL.true _ c.replacement-found.ensures _ c.in-At.is c.open_node-went.auto.work (c.open_node-went.ensures g _ u q) _ c.in-On.is
+    replacement_ends q c.requires.p_lt_n c.args.left _ c.node_at-node.ensures c.if-node-eq-EXTERNAL.true _ c.replacement-found.ensures _ c.in-Some.is c.open_node-went.auto.work (c.open_node-went.ensures g _ u q) _ c.in-On.is
 
 pub walk_below-overflow_add-base : goal.walk_below-overflow_add-base
 walk_below-overflow_add-base t c = omega (arith, c.requires.p_lt_n, c.requires.inside.stands.charted.mapped.few)

@@ -1,5 +1,5 @@
+use Rattle.std.specs.Prelude.{Some, None}
 use mathlib.Core.Path.{◌≡◌, sym, ◌∙◌}
-use Rattle.dense_order.specs.declared.Kid.TheVariants.{Child, Childless}
 use Rattle.merger.proofs.Cursors.{node_start, node_next}
 use Rattle.merger.proofs.ChildRanges.{near_start, near_found, near_step, near_end}
 use borrow.Author.Rules.{rules}
@@ -24,7 +24,7 @@ returns-in-Child c =
     let l = c.loop-p in
     let k = c.last_from in
     let child = c.in-Child.child in
-    let e : k.result ≡ Child child = search rules in
+    let e : k.result ≡ Some child = search rules in
     near_found c.args.table.now c.args.nodes.now c.requires.nodes_len l.p l.invariant.2 _ c.at_node-at.ensures (omega (arith, l.invariant.0)) _ c.node_at-node.ensures child (sym k.ensures ∙ e)
 
 pub loop-p-preserved : goal.loop-p-preserved
@@ -32,7 +32,7 @@ loop-p-preserved c =
     let l = c.loop-p in
     let k = c.last_from in
     let a = c.at_node-at.ensures in
-    let e : k.result ≡ Childless = search rules in
+    let e : k.result ≡ None = search rules in
     (l.invariant.0, node_next c.args.table.now _ l.p a, near_step c.args.table.now c.args.nodes.now c.requires.nodes_len l.p l.invariant.2 _ a (omega (arith, l.invariant.0)) _ c.node_at-node.ensures (sym k.ensures ∙ e))
 
 pub returns : goal.returns
