@@ -1,7 +1,7 @@
 -- Laws of Canonicalize's checks of a forest, one after the other, up to the room that holds its order.
 -- Assumes nothing.
 use Prim.Native.Nat.{ℕ, ◌/◌, ◌<◌}
-use mathlib.Core.Path.{◌≡◌, ◌∙◌}
+use mathlib.Core.Path.{◌≡◌, ◌∙◌, sym}
 use mathlib.Core.Bool.{not}
 use mathlib.Core.List.{List, [], ◌∷◌, map}
 use Rattle.std.specs.Prelude.{Option, Some, None, Ok, Err}
@@ -75,7 +75,7 @@ externals_numbered {s} x = rw (x.first, externals_kind s) (sort_all (less s) (ke
 
 -- what the search among the listed externals says of all
 module _ {s w : List ℕ} {n r : ℕ} (x : Externals s w n r) (q : Option ℕ) (said : q ≡ (repeat (nodes_of s) (span w 0 r))) where
-  pub one_repeats : (p : ℕ) → q ≡ room.At p → repeat (nodes_of s) (externals (nodes_of s)) ≡ Some p
+  pub one_repeats : (p : ℕ) → q ≡ Some p → repeat (nodes_of s) (externals (nodes_of s)) ≡ Some p
   one_repeats p e = (sym (said ∙ rw x.first) ∙ e)
 
   pub none_repeats : q ≡ None → repeat (nodes_of s) (externals (nodes_of s)) ≡ None

@@ -27,11 +27,11 @@ module _ (b : List ℕ) where
   -- the lowest bad record goes before all else
   pub record_bad : (i : ℕ) (os : List (Option Reply)) → (lowest bad (nodes_of b)) ≡ Some i → Err (BadRecord i) ≡ check_of (first (bad_record b ∷ os))
   unfolding bad_record naming first check_of
-  record_bad i os e = rw ((sym refl ∙ e))
+  record_bad i os e = rw (sym refl ∙ e)
 
   no_bad : (os : List (Option Reply)) → (lowest bad (nodes_of b)) ≡ None → first (bad_record b ∷ os) ≡ first os
   unfolding bad_record naming first
-  no_bad os e = rw ((sym refl ∙ e))
+  no_bad os e = rw (sym refl ∙ e)
 
   pub found_refused : (r : Reply) → (lowest bad (nodes_of b)) ≡ None → Err r ≡ check_of (first (bad_record b ∷ Some r ∷ []))
   unfolding first check_of

@@ -8,7 +8,7 @@ ghost use Rattle.forest.specs.Lists.{lowest, last_of};
 ghost use Rattle.forest.specs.Lent.{first};
 ghost use Rattle.forest.specs.Validate.{bad_record, forward as forward_of, fault as fault_of, node_faults, validate as validated};
 ghost use Rattle.forest.specs.Canonicalize.{disorders, canonicalize as canonicalized};
-ghost use Rattle.dense_order.specs.Found.{kid_of, check_of};
+ghost use Rattle.dense_order.specs.Found.{check_of};
 ghost use Rattle.dense_order.specs.Kinds.{Blank};
 ghost use Rattle.dense_order.specs.Steps.{size_checks, forest_checks, Fitting, Answers};
 

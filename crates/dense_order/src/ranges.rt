@@ -7,7 +7,6 @@ ghost use Rattle.forest.specs.Order.{repeat};
 ghost use Rattle.forest.specs.Canonicalize.{alone};
 ghost use Rattle.room.specs.Sections.{span};
 ghost use Rattle.sorting.specs.Promises.{Listed};
-ghost use Rattle.dense_order.specs.Found.{far_of};
 
 // The lowest place of a root at or past n.
 pub(crate) fn far_root(roots: &[u32], n: usize) -> Option<usize>

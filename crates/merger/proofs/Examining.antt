@@ -1,7 +1,7 @@
 -- Merge's checks of records and ranges, one after the other.
 -- Assumes nothing.
 use Prim.Native.Nat.{ℕ}
-use mathlib.Core.Path.{◌≡◌}
+use mathlib.Core.Path.{◌≡◌, sym, ◌∙◌}
 use mathlib.Core.List.{List, [], ◌∷◌}
 use Rattle.std.specs.Prelude.{Option, Some, None, Ok, Err}
 use Rattle.record.specs.Node.{nodes_of, bad, rows_of}
@@ -26,7 +26,7 @@ module _ (t s rs : List ℕ) where
   module _ (q : Option ℕ) (said : q ≡ (lowest bad (nodes_of s))) where
     pub record_refused : (p : ℕ) → q ≡ Some p → Err (BadRecord p) ≡ check_of (first (range_checks lent))
     unfolding range_checks bad_record naming first check_of
-    record_refused p e = rw ((sym said ∙ e))
+    record_refused p e = rw (sym said ∙ e)
 
     -- there is none; u is the answer to the search for a far root
     module _ (good : q ≡ None) (u : Option ℕ) (says : (ns : List Node) → u ≡ (far_root (forests 0 (rows_of t) ns rs))) where

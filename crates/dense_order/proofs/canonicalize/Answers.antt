@@ -4,11 +4,11 @@ use borrow.Author.Rules.{rules}
 use Rattle.dense_order.proofs.Answering.{lengths, fitting, deliverable, sizes_refused, forest_refused, all_passed}
 use Rattle.dense_order.proofs.canonicalize.Goals as goal
 
-pub returns-in-Refused : goal.returns-in-Refused
-returns-in-Refused c =
+pub returns-in-Err : goal.returns-in-Err
+returns-in-Err c =
     let x = c.args in
     let q = c.sizes in
-    let r = c.in-Refused.reply in
+    let r = c.in-Err.reply in
     let e : q.result ≡ Err r = search rules in
     sizes_refused x.nodes.now x.roots.now x.node_out.now x.root_out.now x.ids.now x.work.now q.result q.ensures r e
 
@@ -19,13 +19,13 @@ examined-requires c =
     let e : q.result ≡ (Ok tt) = search rules in
     fitting x.nodes.now x.roots.now x.node_out.now x.root_out.now x.ids.now x.work.now q.result q.ensures e refl
 
-pub returns-in-Refused-examined : goal.returns-in-Refused-examined
-returns-in-Refused-examined c =
+pub returns-in-Err-examined : goal.returns-in-Err-examined
+returns-in-Err-examined c =
     let x = c.args in
     let q = c.sizes in
     let e : q.result ≡ (Ok tt) = search rules in
     let k = c.examined in
-    let r = c.in-Refused-examined.reply in
+    let r = c.in-Err-examined.reply in
     let y : k.result ≡ Err r = search rules in
     forest_refused x.nodes.now x.roots.now x.node_out.now x.root_out.now x.ids.now x.work.now q.result q.ensures e k.auto.work k.result k.ensures c.clear.ensures r y
 

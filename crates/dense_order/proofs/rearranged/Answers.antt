@@ -1,6 +1,6 @@
 use Rattle.std.specs.Prelude.{Some, None}
 use mathlib.Core.List.{[]}
-use mathlib.Core.Path.{◌≡◌}
+use mathlib.Core.Path.{◌≡◌, sym, ◌∙◌}
 use native.Mathlib.Omega.{arith}
 use borrow.Author.Rules.{rules}
 use Rattle.record.specs.Node.{nodes_of}
@@ -42,7 +42,7 @@ final_dense_node_order-requires c =
     let s = c.args.nodes.now in
     let k = c.list_externals-externals in
     let h = c.far_child in
-    let y : h.result ≡ Nowhere = search rules in
+    let y : h.result ≡ None = search rules in
     let i = (sym h.ensures ∙ y) in
     record { fair = fair c.requires.blank.counted c.requires.blank.few c.requires.nodes_value i; n_in_bounds = let l = k.auto.work in let z = c.requires.blank.room in omega arith; externals = k.ensures }
 
@@ -54,12 +54,12 @@ returns-in-Some-final_dense_node_order c =
     let e : q.result ≡ None = search rules in
     let d = none_repeats k.ensures _ q.ensures e in
     let h = c.far_child in
-    let y : h.result ≡ Nowhere = search rules in
+    let y : h.result ≡ None = search rules in
     let i = (sym h.ensures ∙ y) in
     let o = c.final_dense_node_order in
     let p = c.in-Some-final_dense_node_order.p in
     let x : o.result ≡ Some p = search rules in
-    refuses _ (cyclic (nodes_of s) d i p ((sym o.ensures.answer ∙ x)))
+    refuses _ (cyclic (nodes_of s) d i p (sym o.ensures.answer ∙ x))
 
 pub returns : goal.returns
 returns c =
@@ -69,7 +69,7 @@ returns c =
     let e : q.result ≡ None = search rules in
     let d = none_repeats k.ensures _ q.ensures e in
     let h = c.far_child in
-    let y : h.result ≡ Nowhere = search rules in
+    let y : h.result ≡ None = search rules in
     let i = (sym h.ensures ∙ y) in
     let o = c.final_dense_node_order in
     let x : o.result ≡ None = search rules in

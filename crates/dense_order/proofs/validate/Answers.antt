@@ -10,10 +10,10 @@ returns-then-n-gt-MOST c = too_many c.args.nodes.now c.if-n-gt-MOST.true
 pub returns-then-nodes-ne0 : goal.returns-then-nodes-ne0
 returns-then-nodes-ne0 c = part_record c.args.nodes.now c.if-n-gt-MOST.false c.if-nodes-ne0.true
 
-pub returns-in-Refused : goal.returns-in-Refused
-returns-in-Refused c =
+pub returns-in-Err : goal.returns-in-Err
+returns-in-Err c =
     let v = c.validate_records in
-    let reply = c.in-Refused.reply in
+    let reply = c.in-Err.reply in
     let e : v.result ≡ Err reply = search rules in
     records_refused c.args.nodes.now c.if-n-gt-MOST.false c.if-nodes-ne0.false reply (sym v.ensures ∙ e)
 

@@ -8,36 +8,28 @@ use Rattle.dense_order.proofs.validate_dense_node_order.Goals as goal
 pub returns-then-n-eq0 : goal.returns-then-n-eq0
 returns-then-n-eq0 c = none_ordered c.args.nodes.now (omega arith)
 
-pub returns-in-Refused : goal.returns-in-Refused
-returns-in-Refused c =
-    let f = c.forward in
-    let reply = c.in-Refused.reply in
-    let e : f.result ≡ Err reply = search rules in
-    first_refused c.args.nodes.now (omega arith) reply (sym f.ensures ∙ e)
+pub returns-in_err-forward : goal.returns-in_err-forward
+returns-in_err-forward c =
+    let e : c.from_residual.result ≡ Err c.in_err-forward.field-0.0 = search rules in
+    e ∙ first_refused c.args.nodes.now (omega arith) _ (sym c.forward.ensures ∙ c.in_err-forward.was)
 
 pub loop-i-init : goal.loop-i-init
 loop-i-init c =
-    let f = c.forward in
-    let e : f.result ≡ (Ok tt) = search rules in
-    first_ordered c.args.nodes.now (omega arith) (sym f.ensures ∙ e)
+    first_ordered c.args.nodes.now (omega arith) (sym c.forward.ensures ∙ c.in_ok-forward.was)
 
 pub fault-requires : goal.fault-requires
 fault-requires c = (c.loop-i.invariant.some, omega arith)
 
-pub returns-in-Refused-fault : goal.returns-in-Refused-fault
-returns-in-Refused-fault c =
+pub returns-in_err-fault : goal.returns-in_err-fault
+returns-in_err-fault c =
     let l = c.loop-i in
-    let f = c.fault in
-    let reply = c.in-Refused-fault.reply in
-    let e : f.result ≡ Err reply = search rules in
-    next_refused c.args.nodes.now l.i l.invariant c.loop-i-test.true reply (sym f.ensures ∙ e)
+    let e : c.from_residual-in_err-fault.result ≡ Err c.in_err-fault.field-0.0 = search rules in
+    e ∙ next_refused c.args.nodes.now l.i l.invariant c.loop-i-test.true _ (sym c.fault.ensures ∙ c.in_err-fault.was)
 
 pub loop-i-preserved : goal.loop-i-preserved
 loop-i-preserved c =
     let l = c.loop-i in
-    let f = c.fault in
-    let e : f.result ≡ (Ok tt) = search rules in
-    next_ordered c.args.nodes.now l.i l.invariant c.loop-i-test.true (sym f.ensures ∙ e)
+    next_ordered c.args.nodes.now l.i l.invariant c.loop-i-test.true (sym c.fault.ensures ∙ c.in_ok-fault.was)
 
 pub returns : goal.returns
 returns c =

@@ -14,11 +14,11 @@ returns-then-n-eq0 c =
     let s = c.args.nodes.now in
     both_passed s (sym (seeking_end s 0 (seeking_start s) (omega arith))) (none_ordered s (omega arith))
 
-pub returns-in-Refused : goal.returns-in-Refused
-returns-in-Refused c =
+pub returns-in-Err : goal.returns-in-Err
+returns-in-Err c =
     let s = c.args.nodes.now in
     let f = c.forward in
-    let reply = c.in-Refused.reply in
+    let reply = c.in-Err.reply in
     let e : f.result ≡ Err reply = search rules in
     order_refused s reply _ (first_refused s (omega arith) reply (sym f.ensures ∙ e)) c.bad_first.ensures
 
@@ -46,14 +46,14 @@ returns-then-bad-2 c =
 pub fault-requires : goal.fault-requires
 fault-requires c = (c.loop-i.invariant.1.some, omega arith)
 
-pub returns-in-Refused-fault : goal.returns-in-Refused-fault
-returns-in-Refused-fault c =
+pub returns-in-Err-fault : goal.returns-in-Err-fault
+returns-in-Err-fault c =
     let s = c.args.nodes.now in
     let l = c.loop-i in
     let f = c.fault in
-    let reply = c.in-Refused-fault.reply in
+    let reply = c.in-Err-fault.reply in
     let e : f.result ≡ Err reply = search rules in
-    order_refused s reply _ (next_refused s l.i l.invariant.1 c.loop-i-test.true reply (sym f.ensures ∙ e)) c.bad_first-in-Refused-fault.ensures
+    order_refused s reply _ (next_refused s l.i l.invariant.1 c.loop-i-test.true reply (sym f.ensures ∙ e)) c.bad_first-in-Err-fault.ensures
 
 pub loop-i-preserved : goal.loop-i-preserved
 loop-i-preserved c =

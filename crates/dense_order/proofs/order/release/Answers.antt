@@ -1,4 +1,4 @@
-use mathlib.Core.Path.{refl, ◌∙◌}
+use mathlib.Core.Path.{refl, ◌∙◌, sym}
 use native.Mathlib.Omega.{arith}
 use borrow.Author.Rules.{rules}
 use Rattle.dense_order.proofs.Releasing.{releasing_start, releasing_step, releasing_none, releasing_full, found_below, found_ready}
@@ -17,7 +17,7 @@ pub shape_of-work-in_default : goal.shape_of-work-in_default
 shape_of-work-in_default c = c.loop-filled.invariant.0
 
 pub returns-in_default : goal.returns-in_default
-returns-in_default c = releasing_none c.loop-filled.invariant.1 ((sym c.lowest-found.ensures ∙ (search rules)))
+returns-in_default c = releasing_none c.loop-filled.invariant.1 (sym c.lowest-found.ensures ∙ (search rules))
 
 pub append-requires : goal.append-requires
 append-requires c =
@@ -29,7 +29,7 @@ pub loop-filled-preserved : goal.loop-filled-preserved
 loop-filled-preserved c =
     let l = c.loop-filled.invariant in
     let a = c.append in
-    (a.auto.work ∙ l.0, releasing_step l.1 ((sym c.lowest-found.ensures ∙ (search rules))) c.loop-filled-test.true a.ensures)
+    (a.auto.work ∙ l.0, releasing_step l.1 (sym c.lowest-found.ensures ∙ (search rules)) c.loop-filled-test.true a.ensures)
 
 pub shape_of-work : goal.shape_of-work
 shape_of-work c = c.loop-filled.invariant.0

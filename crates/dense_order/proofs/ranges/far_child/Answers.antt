@@ -7,11 +7,11 @@ use Rattle.dense_order.proofs.ranges.far_child.Goals as goal
 pub loop-i-init : goal.loop-i-init
 loop-i-init c = near_start c.args.nodes.now
 
-pub returns-in-Child : goal.returns-in-Child
-returns-in-Child c =
+pub returns-in-Some : goal.returns-in-Some
+returns-in-Some c =
     let l = c.loop-i in
     let k = c.last_from in
-    let child = c.in-Child.child in
+    let child = c.in-Some.child in
     let e : k.result ≡ Some child = search rules in
     near_found c.args.nodes.now l.i l.invariant c.loop-i-test.true _ c.node_at-node.ensures child (sym k.ensures ∙ e)
 
