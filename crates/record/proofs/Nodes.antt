@@ -13,8 +13,10 @@ use borrow.Author.Tests.{ltb-false, eqb-true, not-false}
 use lib.ListN.{length, take, drop, length-append, length-take, length-drop, length-map, take-append-drop}
 use lib.Seq.{drop_at}
 use Rattle.record.specs.Lists.{run, all, flat}
-use Rattle.record.specs.Node.{fields, words, size, last_kind, record_at, node_at, nodes_of, node_bytes, Class, external, block, internal, class_of, rank, class, is_external, is_block, is_internal, bad, children, renumber}
+use Rattle.record.specs.Node.{fields, words, size, last_kind, record_at, node_at, nodes_of, node_bytes, class_of, rank, class, is_external, is_block, is_internal, bad, children, renumber}
 use Rattle.record.specs.Number.{le, number, numbers}
+use Rattle.record.specs.declared.Class.{Class}
+use Rattle.record.specs.declared.Class.TheVariants.{External, Block, Internal}
 use Rattle.record.specs.declared.Node.{Node}
 use Rattle.record.proofs.Basics.{clash, both_true, either_false}
 use Rattle.record.proofs.Lengths.{length_numbers, length_run, Full, length_node_bytes}
@@ -28,9 +30,9 @@ unfolding is_external is_block is_internal class rank
 classes n = go (class_of n.kind) refl
   where
     go : (c : Class) → class_of n.kind ≡ c → (eqb (rank (class_of n.kind)) 0 ≡ true) ⊎ ((eqb (rank (class_of n.kind)) 1 ≡ true) ⊎ (eqb (rank (class_of n.kind)) 2 ≡ true))
-    go external e = inl (rw e)
-    go block e = inr (inl (rw e))
-    go internal e = inr (inr (rw e))
+    go External e = inl (rw e)
+    go Block e = inr (inl (rw e))
+    go Internal e = inr (inr (rw e))
 
 -- the classes' tests, by the rank
 pub external_rank : (n : Node) → is_external n ≡ eqb (rank (class n)) 0

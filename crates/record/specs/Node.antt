@@ -3,6 +3,8 @@
 use Rattle.std.specs.Prelude.{ℕ, zero, suc, ◌+◌, ◌*◌, ◌/◌, Bool, not, ◌&&◌, ◌||◌, List, ◌++◌, map, ltb, eqb, length, take, drop}
 use Rattle.record.specs.Lists.{same, run, all, flat}
 use Rattle.record.specs.Number.{number, numbers, bytes}
+use Rattle.record.specs.declared.Class.{Class}
+use Rattle.record.specs.declared.Class.TheVariants.{External, Block, Internal}
 use Rattle.record.specs.declared.Node.{Node}
 use Rattle.record.specs.declared.Row.{Row}
 
@@ -54,31 +56,28 @@ unfoldable pub rows_of : List ℕ → List Row
 rows_of s = map (row_at s) (run 0 (length s / row_size))
 
 -- kind 0 is external, 1 a block, 2 and more internal
-pub data Class : Type 0 where
-  external block internal : Class
-
 unfoldable pub class_of : ℕ → Class
-class_of zero = external
-class_of (suc zero) = block
-class_of (suc (suc k)) = internal
+class_of zero = External
+class_of (suc zero) = Block
+class_of (suc (suc k)) = Internal
 
 -- the classes in their order
 unfoldable pub rank : Class → ℕ
-rank external = 0
-rank block = 1
-rank internal = 2
+rank External = 0
+rank Block = 1
+rank Internal = 2
 
 unfoldable pub class : Node → Class
 class n = class_of n.kind
 
 unfoldable pub is_external : Node → Bool
-is_external n = eqb (rank (class n)) (rank external)
+is_external n = eqb (rank (class n)) (rank External)
 
 unfoldable pub is_block : Node → Bool
-is_block n = eqb (rank (class n)) (rank block)
+is_block n = eqb (rank (class n)) (rank Block)
 
 unfoldable pub is_internal : Node → Bool
-is_internal n = eqb (rank (class n)) (rank internal)
+is_internal n = eqb (rank (class n)) (rank Internal)
 
 -- a kind past the last, too many children, an external or block with a child, or a child field at or past the count that is not 0
 unfoldable pub bad : Node → Bool

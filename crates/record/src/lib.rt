@@ -6,7 +6,7 @@ ghost use Rattle.std.proofs.lemmas.List.Edits.{sets};
 ghost use Rattle.record.specs.Lists.{all, over, flat};
 ghost use Rattle.record.specs.Number.{number, numbers, bytes};
 ghost use Rattle.record.specs.Order.{deciding, compared};
-ghost use Rattle.record.specs.Node.{fields, words, size, row_size, node_at, row_at, node_bytes, bad as is_bad};
+ghost use Rattle.record.specs.Node.{fields, words, size, row_size, node_at, row_at, node_bytes, class_of, bad as is_bad};
 
 // How many child fields and digest words a node record has.
 pub const FIELDS: usize = 2;
@@ -21,6 +21,14 @@ pub const SIZE: usize = DIGEST + 8 * WORDS;
 pub const ROW_SIZE: usize = 8;
 
 pub const LAST_KIND: u32 = 255;
+
+// The classes of nodes, in their order.
+#[derive(Clone, Copy, PartialEq, Eq, PartialOrd, Ord)]
+pub enum Class {
+    External,
+    Block,
+    Internal,
+}
 
 // A node: kind 0 is external, 1 a block, 2 to 255 internal.
 #[derive(Clone, Copy)]
@@ -108,6 +116,17 @@ pub fn kind_at(nodes: &[u8], i: usize) -> u32
     ensures { result ≡ (node_at nodes.now i).kind }
 {
     u32_at(nodes, SIZE * i)
+}
+
+// The class of a kind.
+pub fn class_of(kind: u32) -> Class
+    ensures { result ≡ class_of kind }
+{
+    match kind {
+        0 => Class::External,
+        1 => Class::Block,
+        _ => Class::Internal,
+    }
 }
 
 // The digest of node record `i`.
