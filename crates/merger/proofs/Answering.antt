@@ -67,7 +67,7 @@ joined_some (Some q) x r e = cc
 
 joined_none : (o : Option Reply) (x : Result) (n k : ℕ) → joined_of o x ≡ Ok (n, k) → (o ≡ None) × (length x.nodes ≡ n) × (length x.roots ≡ k)
 unfolding joined_of
-joined_none None x n k e = (refl, cc, cc)
+joined_none None x n k e = let q : (length x.nodes, length x.roots) ≡ (n, k) = cc in (refl, ap (λ (a : ℕ × ℕ). a.0) q, ap (λ (a : ℕ × ℕ). a.1) q)
 joined_none (Some q) x n k e = absurd (clash cc)
 
 -- THE OUTCOME -------------------------------------------------------------------------------------

@@ -1,6 +1,6 @@
 -- Taking one position after the other: where the walk has come to after the first i of a list.
 -- Assumes nothing.
-use Rattle.std.specs.Prelude.{Ok}
+use Rattle.std.specs.Prelude.{Ok, Err}
 use Prim.Native.Nat.{ℕ, suc, ◌+◌, ◌<◌, ◌≤◌}
 use mathlib.Core.Path.{◌≡◌, refl, sym, ◌∙◌, ap}
 use mathlib.Core.List.Memᴰ
@@ -11,6 +11,7 @@ use lib.ListN.{length, take, drop, get_or, drop_of_length-le}
 use lib.Seq.{drop-cons, take-suc, take_all}
 use Rattle.record.specs.declared.Node.{Node}
 use Rattle.record.proofs.Basics.{clash}
+use Rattle.forest.specs.declared.Reply.{Reply}
 use Rattle.forest.specs.Walk.{State, Walked, going, cycle, deep, onward, each, visit}
 use Rattle.claims.specs.Sound.{Finished}
 use Rattle.dense_order.specs.Found.{Checked}
@@ -34,6 +35,10 @@ unfolding went_of onward
 off_stops (going u) k f = absurd (f _ refl)
 off_stops (cycle p) k f = refl
 off_stops (deep p) k f = refl
+
+-- a refusal is no answer that goes on
+pub off_err : (r : Checked ℕ) (e : Reply) → r ≡ Err e → (c : ℕ) → r ≡ Ok c → ⊥
+off_err r e f c g = clash (cc)
 
 pub off_not : (o : Walked) (u : State) → ((c : ℕ) → went_of o ≡ Ok c → ⊥) → o ≡ going u → ⊥
 unfolding went_of

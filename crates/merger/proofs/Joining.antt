@@ -28,18 +28,12 @@ use Rattle.merger.specs.Walking.{went_of, Ended}
 use Rattle.merger.proofs.Going.{on_going}
 use Rattle.merger.proofs.Roots.{roots_are}
 
--- which walk an answer tells of
-went_cycle : (o : Walked) (p : ℕ) → went_of o ≡ Err (Cycle p) → o ≡ cycle p
-unfolding went_of
-went_cycle (going t) p e = absurd (clash cc)
-went_cycle (cycle q) p e = cc
-went_cycle (deep q) p e = absurd (clash cc)
-
-went_deep : (o : Walked) (p : ℕ) → went_of o ≡ Err (TooDeep p) → o ≡ deep p
-unfolding went_of
-went_deep (going t) p e = absurd (clash cc)
-went_deep (cycle q) p e = absurd (clash cc)
-went_deep (deep q) p e = cc
+-- a walk that is refused has stopped
+went_stopped : (o : Walked) (r : Reply) → went_of o ≡ Err r → stopped o ≡ Some r
+unfolding went_of stopped
+went_stopped (going t) r e = absurd (clash cc)
+went_stopped (cycle q) r e = cc
+went_stopped (deep q) r e = cc
 
 module _ {limit : ℕ} {i : Input} (records roots n : ℕ) where
   refuses : {w₁ : List ℕ} (r : Reply) → first (later_checks limit i records roots) ≡ Some r → Joins limit i records roots w₁ n (Err r)
@@ -59,13 +53,9 @@ module _ {limit : ℕ} {i : Input} (records roots n : ℕ) where
     behind : first (later_checks limit i records roots) ≡ first (walk_checks limit i records roots)
     behind = first_append (range_checks i) (walk_checks limit i records roots) before.ranged
 
-    pub cycle_refused : (p : ℕ) → r ≡ Err (Cycle p) → Joins limit i records roots w₁ n (Err (reply.Cycle p))
-    unfolding walk_checks stopped first
-    cycle_refused p e = refuses _ (behind ∙ rw (went_cycle (walk_of limit i) p (sym ends.answer ∙ e)) refl)
-
-    pub deep_refused : (p : ℕ) → r ≡ Err (TooDeep p) → Joins limit i records roots w₁ n (Err (reply.TooDeep p))
-    unfolding walk_checks stopped first
-    deep_refused p e = refuses _ (behind ∙ rw (went_deep (walk_of limit i) p (sym ends.answer ∙ e)) refl)
+    pub walk_refused : (v : Reply) → r ≡ Err v → Joins limit i records roots w₁ n (Err v)
+    unfolding walk_checks first
+    walk_refused v e = refuses v (behind ∙ rw (went_stopped (walk_of limit i) v (sym ends.answer ∙ e)) refl)
 
     -- it goes on to its end, with m nodes merged
     module _ (m : ℕ) (on : r ≡ Ok m) where

@@ -6,13 +6,14 @@ use mathlib.Core.Bool.{false}
 use mathlib.Core.List.Memᴰ
 use mathlib.Core.List.{List, ◌∷◌, Memᴰ}
 use mathlib.Core.Logic.{◌⊎◌, inl, inr}
-use Rattle.std.specs.Prelude.{None, Ok}
+use Rattle.std.specs.Prelude.{None, Ok, Err}
 use native.Mathlib.Omega.{arith}
 use native.Mathlib.Decide.{ℕ_discrete}
 use lib.ListN.{length, get_or, set, length-set}
 use lib.Seq.{get_or-set_same, get_or-set_other}
 use Rattle.record.specs.declared.Node.{Node}
 use Rattle.record.proofs.Basics.{clash}
+use Rattle.forest.specs.declared.Reply.TheVariants.{Cycle, TooDeep}
 use Rattle.forest.specs.Lists.{has}
 use Rattle.forest.specs.Walk.{State, going, cycle, deep, id_in, finished, opened, unseen, marked, mark, enter, visit}
 use Rattle.claims.specs.Searches.{not_in}
@@ -93,13 +94,13 @@ module _ {s w : List ℕ} {n h m : ℕ} {g : List Node} {path : List ℕ} {t : S
       same : (u : State) → going t ≡ going u → Came g w w n path u
       same u z = let y : t ≡ u = cc in rw (sym y) (record { holds = q.holds; rest = λ y k. refl })
 
-  pub takes_met : get_or w p 0 ≡ 1 → Walks g w w n path (visit g d path p t) (Cycle p)
+  pub takes_met : get_or w p 0 ≡ 1 → Walks g w w n path (visit g d path p t) (Err (Cycle p))
   unfolding mark marked went_of
   takes_met l =
       let (a, b) = word_open (id_in t.done p) (has p path) (sym (q.holds.states p low) ∙ l) in
       rw (visit_met g path p t d (rw (a, b) refl)) (record { answer = refl; came = λ u z. absurd (clash (cc)) })
 
-  pub takes_deep : get_or w p 0 ≡ 0 → d ≡ 0 → Walks g w w n path (visit g d path p t) (TooDeep p)
+  pub takes_deep : get_or w p 0 ≡ 0 → d ≡ 0 → Walks g w w n path (visit g d path p t) (Err (TooDeep p))
   unfolding went_of
   takes_deep l z = rw (z, visit_deep g path p t (unseen_mark l)) (record { answer = refl; came = λ u y. absurd (clash (cc)) })
 

@@ -113,8 +113,7 @@ fn walk_below(
     let kids = node.kids;
     let children = node.count as usize;
     let mut merged = count;
-    let mut i = 0;
-    while i < children {
+    for i in 0..children {
         merged = open_node(
             nodes,
             work,
@@ -124,7 +123,6 @@ fn walk_below(
             left,
             merged,
         )?;
-        i += 1;
     }
     Ok(merging::push(nodes, work, n, p, merged))
 }
@@ -145,19 +143,17 @@ pub(crate) fn walk_roots(
 {
     let mut at = table::start();
     let mut merged = 0;
-    let mut k = 0;
-    while k < roots.len() {
+    for (k, root) in roots.iter().enumerate() {
         at = table::at_root(table, at, k);
         merged = open_node(
             nodes,
             work,
             n,
             holders,
-            at.base + roots[k] as usize,
+            at.base + *root as usize,
             limit,
             merged,
         )?;
-        k += 1;
     }
     Ok(merged)
 }

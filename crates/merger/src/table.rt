@@ -5,7 +5,6 @@ ghost use Rattle.record.specs.declared.Node.{Node};
 ghost use Rattle.forest.specs.Graph.{forests, far_root, far_child};
 ghost use Rattle.forest.specs.Lent.{work_words, most};
 ghost use Rattle.forest.specs.Merge.{node_sum, root_sum};
-ghost use Rattle.dense_order.specs.Found.{far_of};
 ghost use Rattle.merger.specs.Table.{Few, On, ToNode, ToRoot, AtNode, AtRoot, Bases};
 
 use crate::{BASES, Cursor};

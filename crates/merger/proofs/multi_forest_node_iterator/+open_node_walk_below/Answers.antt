@@ -1,9 +1,11 @@
 use Rattle.record.specs.declared.Node.{Node}
 use Rattle.merger.proofs.Taking.{leaf_pushing, leaf_finishes, replacement_low, replacement_stops, replacement_ends, taking_start, child_low, child_stops, child_taken, kids_pushing, kids_finish}
+use Rattle.merger.proofs.Going.{off_err}
 use Rattle.merger.proofs.Opening.{opens, opens_new, takes_over, takes_met, takes_deep, takes_below}
 use lib.ListN.{get_or, length-set}
 use mathlib.Core.Path.{◌≡◌, ◌∙◌, ap, refl}
 use native.Mathlib.Omega.{arith}
+use borrow.Author.Rules.{rules}
 use Prim.Native.Nat.{ℕ, ◌<◌, ◌+◌, ◌*◌}
 use Rattle.merger.proofs.multi_forest_node_iterator.+open_node_walk_below.Goals as goal
 
@@ -40,13 +42,13 @@ open_node-returns t c =
 pub walk_below-node_at-node-requires : goal.walk_below-node_at-node-requires
 walk_below-node_at-node-requires t c = let z = c.requires.inside.stands.charted.mapped.counted in omega (arith, c.requires.p_lt_n)
 
-pub walk_below-replacement-found-requires : goal.walk_below-replacement-found-requires
-walk_below-replacement-found-requires t c = c.requires.inside.stands.charted.held
+pub walk_below-replacement-requires : goal.walk_below-replacement-requires
+walk_below-replacement-requires t c = c.requires.inside.stands.charted.held
 
 pub walk_below-push-requires : goal.walk_below-push-requires
 walk_below-push-requires t c =
     let a = c.requires.inside in
-    record { graph = a.graph; path = a.path; state = a.state; pushing = leaf_pushing a.stands c.requires.p_lt_n c.args.left _ c.node_at-node.ensures c.if-node-eq-EXTERNAL.true _ c.replacement-found.ensures c.in_default.is a.new }
+    record { graph = a.graph; path = a.path; state = a.state; pushing = leaf_pushing a.stands c.requires.p_lt_n c.args.left _ c.node_at-node.ensures c.if-node-eq-EXTERNAL.true _ c.replacement.ensures c.in_default.is a.new }
 
 pub walk_below-shape_of-work-in_default : goal.walk_below-shape_of-work-in_default
 walk_below-shape_of-work-in_default t c = c.push.auto.work
@@ -54,44 +56,45 @@ walk_below-shape_of-work-in_default t c = c.push.auto.work
 pub walk_below-returns-in_default : goal.walk_below-returns-in_default
 walk_below-returns-in_default t c =
     λ g path u q new.
-    leaf_finishes q c.requires.p_lt_n c.args.left _ c.node_at-node.ensures c.if-node-eq-EXTERNAL.true _ c.replacement-found.ensures c.in_default.is _ (c.push.ensures g path u (leaf_pushing q c.requires.p_lt_n c.args.left _ c.node_at-node.ensures c.if-node-eq-EXTERNAL.true _ c.replacement-found.ensures c.in_default.is new))
+    leaf_finishes q c.requires.p_lt_n c.args.left _ c.node_at-node.ensures c.if-node-eq-EXTERNAL.true _ c.replacement.ensures c.in_default.is _ (c.push.ensures g path u (leaf_pushing q c.requires.p_lt_n c.args.left _ c.node_at-node.ensures c.if-node-eq-EXTERNAL.true _ c.replacement.ensures c.in_default.is new))
 
-pub walk_below-open_node-went-requires : goal.walk_below-open_node-went-requires
-walk_below-open_node-went-requires t c =
+pub walk_below-open_node-requires : goal.walk_below-open_node-requires
+walk_below-open_node-requires t c =
     let a = c.requires.inside in
-    (omega (arith), (record { graph = a.graph; path = _; state = a.state; stands = a.stands }, replacement_low a.stands c.requires.p_lt_n c.args.left _ c.node_at-node.ensures c.if-node-eq-EXTERNAL.true _ c.replacement-found.ensures _ c.in-Some.is))
+    (omega (arith), (record { graph = a.graph; path = _; state = a.state; stands = a.stands }, replacement_low a.stands c.requires.p_lt_n c.args.left _ c.node_at-node.ensures c.if-node-eq-EXTERNAL.true _ c.replacement.ensures _ c.in-Some.is))
 
-pub walk_below-shape_of-work-in_default-went : goal.walk_below-shape_of-work-in_default-went
-walk_below-shape_of-work-in_default-went t c = c.open_node-went.auto.work
+pub walk_below-shape_of-work-in_err-merged : goal.walk_below-shape_of-work-in_err-merged
+walk_below-shape_of-work-in_err-merged t c = c.open_node.auto.work
 
-pub walk_below-returns-in_default-went : goal.walk_below-returns-in_default-went
-walk_below-returns-in_default-went t c =
+pub walk_below-returns-in_err-merged : goal.walk_below-returns-in_err-merged
+walk_below-returns-in_err-merged t c =
     λ g path u q new.
-    replacement_stops q c.requires.p_lt_n c.args.left _ c.node_at-node.ensures c.if-node-eq-EXTERNAL.true _ c.replacement-found.ensures _ c.in-Some.is c.open_node-went.auto.work (c.open_node-went.ensures g _ u q) c.in_default-went.not-On
+    let same : c.from_residual.result ≡ c.open_node.result = search rules in
+    rw same (replacement_stops q c.requires.p_lt_n c.args.left _ c.node_at-node.ensures c.if-node-eq-EXTERNAL.true _ c.replacement.ensures _ c.in-Some.is c.open_node.auto.work (c.open_node.ensures g _ u q) (off_err _ _ c.in_err-merged.was))
 
 pub walk_below-offset_bounds-work-q : goal.walk_below-offset_bounds-work-q
 walk_below-offset_bounds-work-q t c =
-    let z : ◌<◌ c.in-Some.q c.args.n = replacement_low c.requires.inside.stands c.requires.p_lt_n c.args.left _ c.node_at-node.ensures c.if-node-eq-EXTERNAL.true _ c.replacement-found.ensures _ c.in-Some.is in
+    let z : ◌<◌ c.in-Some.q c.args.n = replacement_low c.requires.inside.stands c.requires.p_lt_n c.args.left _ c.node_at-node.ensures c.if-node-eq-EXTERNAL.true _ c.replacement.ensures _ c.in-Some.is in
     omega (arith, z, c.requires.inside.stands.charted.mapped.few)
 
 pub walk_below-bounds-work-q : goal.walk_below-bounds-work-q
 walk_below-bounds-work-q t c =
-    let low : ◌<◌ c.in-Some.q c.args.n = replacement_low c.requires.inside.stands c.requires.p_lt_n c.args.left _ c.node_at-node.ensures c.if-node-eq-EXTERNAL.true _ c.replacement-found.ensures _ c.in-Some.is in
-    omega (arith, low, c.requires.inside.stands.charted.mapped.room, c.open_node-went.auto.work)
+    let low : ◌<◌ c.in-Some.q c.args.n = replacement_low c.requires.inside.stands c.requires.p_lt_n c.args.left _ c.node_at-node.ensures c.if-node-eq-EXTERNAL.true _ c.replacement.ensures _ c.in-Some.is in
+    omega (arith, low, c.requires.inside.stands.charted.mapped.room, c.open_node.auto.work)
 
 pub walk_below-offset_bounds-work-p : goal.walk_below-offset_bounds-work-p
 walk_below-offset_bounds-work-p t c = omega (arith, c.requires.p_lt_n, c.requires.inside.stands.charted.mapped.few)
 
 pub walk_below-bounds-work-p : goal.walk_below-bounds-work-p
-walk_below-bounds-work-p t c = omega (arith, c.requires.p_lt_n, c.requires.inside.stands.charted.mapped.room, c.open_node-went.auto.work)
+walk_below-bounds-work-p t c = omega (arith, c.requires.p_lt_n, c.requires.inside.stands.charted.mapped.room, c.open_node.auto.work)
 
 pub walk_below-shape_of-work-then-node-eq-EXTERNAL : goal.walk_below-shape_of-work-then-node-eq-EXTERNAL
-walk_below-shape_of-work-then-node-eq-EXTERNAL t c = simp length-set c.open_node-went.auto.work
+walk_below-shape_of-work-then-node-eq-EXTERNAL t c = simp length-set c.open_node.auto.work
 
 pub walk_below-returns-then-node-eq-EXTERNAL : goal.walk_below-returns-then-node-eq-EXTERNAL
 walk_below-returns-then-node-eq-EXTERNAL t c =
     λ g path u q new.
-    replacement_ends q c.requires.p_lt_n c.args.left _ c.node_at-node.ensures c.if-node-eq-EXTERNAL.true _ c.replacement-found.ensures _ c.in-Some.is c.open_node-went.auto.work (c.open_node-went.ensures g _ u q) _ c.in-On.is
+    replacement_ends q c.requires.p_lt_n c.args.left _ c.node_at-node.ensures c.if-node-eq-EXTERNAL.true _ c.replacement.ensures _ c.in-Some.is c.open_node.auto.work (c.open_node.ensures g _ u q) _ c.in_ok-merged.was
 
 pub walk_below-overflow_add-base : goal.walk_below-overflow_add-base
 walk_below-overflow_add-base t c = omega (arith, c.requires.p_lt_n, c.requires.inside.stands.charted.mapped.few)
@@ -122,27 +125,28 @@ walk_below-overflow_add-base-in-loop-i t c =
     let low = child_low c.requires.p_lt_n _ c.node_at-node.ensures c.if-node-eq-EXTERNAL.false a.stands (c.loop-i.invariant.gone a.graph a.path a.state a.stands) c.loop-i-test.true _ refl in
     omega (arith, low, a.stands.charted.mapped.few)
 
-pub walk_below-open_node-went-requires-in-loop-i : goal.walk_below-open_node-went-requires-in-loop-i
-walk_below-open_node-went-requires-in-loop-i t c =
+pub walk_below-open_node-requires-in-loop-i : goal.walk_below-open_node-requires-in-loop-i
+walk_below-open_node-requires-in-loop-i t c =
     let a = c.requires.inside in
     let v = c.loop-i.invariant.gone a.graph a.path a.state a.stands in
     (omega (arith), (record { graph = a.graph; path = _; state = v.state; stands = v.stands }, child_low c.requires.p_lt_n _ c.node_at-node.ensures c.if-node-eq-EXTERNAL.false a.stands (c.loop-i.invariant.gone a.graph a.path a.state a.stands) c.loop-i-test.true _ refl))
 
-pub walk_below-shape_of-work-in_default-went-2 : goal.walk_below-shape_of-work-in_default-went-2
-walk_below-shape_of-work-in_default-went-2 t c = c.open_node-went-in-loop-i.auto.work ∙ c.loop-i.invariant.long
+pub walk_below-shape_of-work-in_err-merged-2 : goal.walk_below-shape_of-work-in_err-merged-2
+walk_below-shape_of-work-in_err-merged-2 t c = c.open_node-in-loop-i.auto.work ∙ c.loop-i.invariant.long
 
-pub walk_below-returns-in_default-went-2 : goal.walk_below-returns-in_default-went-2
-walk_below-returns-in_default-went-2 t c =
+pub walk_below-returns-in_err-merged-2 : goal.walk_below-returns-in_err-merged-2
+walk_below-returns-in_err-merged-2 t c =
     λ g path u q new.
     let v = c.loop-i.invariant.gone g path u q in
-    child_stops c.requires.p_lt_n _ c.node_at-node.ensures c.if-node-eq-EXTERNAL.false (q) (c.loop-i.invariant.gone (g) (path) (u) (q)) c.loop-i-test.true _ refl c.open_node-went-in-loop-i.auto.work (c.open_node-went-in-loop-i.ensures g _ v.state v.stands) c.in_default-went-2.not-On
+    let same : c.from_residual-in_err-merged-2.result ≡ c.open_node-in-loop-i.result = search rules in
+    rw same (child_stops c.requires.p_lt_n _ c.node_at-node.ensures c.if-node-eq-EXTERNAL.false (q) (c.loop-i.invariant.gone (g) (path) (u) (q)) c.loop-i-test.true _ refl c.open_node-in-loop-i.auto.work (c.open_node-in-loop-i.ensures g _ v.state v.stands) (off_err _ _ c.in_err-merged-2.was))
 
 pub walk_below-loop-i-preserved : goal.walk_below-loop-i-preserved
 walk_below-loop-i-preserved t c =
     record {
-      long = c.open_node-went-in-loop-i.auto.work ∙ c.loop-i.invariant.long;
+      long = c.open_node-in-loop-i.auto.work ∙ c.loop-i.invariant.long;
       within = let z = c.loop-i-test.true in omega arith;
-      gone = λ g path u q. let v = c.loop-i.invariant.gone g path u q in child_taken c.requires.p_lt_n _ c.node_at-node.ensures c.if-node-eq-EXTERNAL.false (q) (c.loop-i.invariant.gone (g) (path) (u) (q)) c.loop-i-test.true _ refl c.open_node-went-in-loop-i.auto.work (c.open_node-went-in-loop-i.ensures g _ v.state v.stands) _ c.in-On-went.is;
+      gone = λ g path u q. let v = c.loop-i.invariant.gone g path u q in child_taken c.requires.p_lt_n _ c.node_at-node.ensures c.if-node-eq-EXTERNAL.false (q) (c.loop-i.invariant.gone (g) (path) (u) (q)) c.loop-i-test.true _ refl c.open_node-in-loop-i.auto.work (c.open_node-in-loop-i.ensures g _ v.state v.stands) _ c.in_ok-merged-2.was;
     }
 
 pub walk_below-push-requires-2 : goal.walk_below-push-requires-2

@@ -1,5 +1,5 @@
 use Rattle.merger.proofs.Taking.{Taking}
-use Prim.Native.Nat.{◌+◌, ◌-◌, ◌*◌}
+use Prim.Native.Nat.{◌+◌, ◌*◌}
 use Rattle.merger.proofs.multi_forest_node_iterator.+open_node_walk_below.Given as goal
 
 abbrev pub decreases-open_node : goal.decreases-open_node
@@ -10,6 +10,3 @@ decreases-walk_below l = 2 * l.left + 1
 
 abbrev pub invariant-walk_below-loop-i : goal.invariant-walk_below-loop-i
 invariant-walk_below-loop-i l = Taking l.nodes l.initial.work l.work l.n l.holders l.p l.left l.count l.merged l.i l.children
-
-abbrev pub decreases-walk_below-loop-i : goal.decreases-walk_below-loop-i
-decreases-walk_below-loop-i l = l.children - l.i

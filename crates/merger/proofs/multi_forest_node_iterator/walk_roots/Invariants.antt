@@ -5,6 +5,3 @@ use Rattle.merger.proofs.multi_forest_node_iterator.walk_roots.Given as goal
 
 abbrev pub invariant-loop-k : goal.invariant-loop-k
 invariant-loop-k l = Rooting l.table l.nodes l.roots l.initial.work l.work l.n l.holders l.limit l.at l.merged l.k
-
-abbrev pub decreases-loop-k : goal.decreases-loop-k
-decreases-loop-k l = length l.roots - l.k

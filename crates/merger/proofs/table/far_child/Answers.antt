@@ -19,11 +19,11 @@ at_node-at-requires c =
 pub overflow_sub-at : goal.overflow_sub-at
 overflow_sub-at c = let a = c.at_node-at.ensures in omega (arith, a.high, a.toward.low)
 
-pub returns-in-Child : goal.returns-in-Child
-returns-in-Child c =
+pub returns-in-Some : goal.returns-in-Some
+returns-in-Some c =
     let l = c.loop-p in
     let k = c.last_from in
-    let child = c.in-Child.child in
+    let child = c.in-Some.child in
     let e : k.result ≡ Some child = search rules in
     near_found c.args.table.now c.args.nodes.now c.requires.nodes_len l.p l.invariant.2 _ c.at_node-at.ensures (omega (arith, l.invariant.0)) _ c.node_at-node.ensures child (sym k.ensures ∙ e)
 
