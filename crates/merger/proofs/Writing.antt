@@ -1,24 +1,22 @@
 -- Laws of the loops that write nodes, roots and ids.
 -- Assumes nothing.
 use Prim.Native.Nat.{ℕ, ◌+◌, ◌-◌, ◌*◌, ◌<◌, ◌≤◌}
-use mathlib.Core.Path.{◌≡◌, refl, sym, ◌∙◌}
-use mathlib.Core.List.{List, map}
+use mathlib.Core.Path.{◌≡◌, refl}
+use mathlib.Core.List.{List, map, ◌++◌}
 use native.Mathlib.Omega.{arith}
 use borrow.Author.Tests.{lt-ltb, le-ltb}
-use lib.ListN.{length, take, drop, get_or, set, length-drop, take-append-drop}
-use lib.Seq.{ext_get_or, get_or-drop}
+use lib.ListN.{length, drop, get_or}
 use Rattle.record.specs.Lists.{over, flat}
 use Rattle.record.specs.Node.{size, node_at, node_bytes}
 use Rattle.record.specs.declared.Node.{Node}
 use Rattle.record.proofs.Lengths.{Full}
 use Rattle.record.proofs.Nodes.{full_read, full_renumber}
-use Rattle.forest.specs.Lent.{work_words, most, no_id}
-use Rattle.room.specs.Sections.{span, Puts}
+use Rattle.forest.specs.Lent.{no_id}
+use Rattle.room.specs.Sections.{span}
 use Rattle.room.proofs.Spans.{span_length, span_at}
-use Rattle.room.proofs.Writes.{Putting, putting_start, putting_step, putting_end}
 use Rattle.dense_order.proofs.Records.{Wrote, wrote_start, wrote_long, wrote_step, wrote_over}
 use Rattle.merger.specs.Rooms.{Writable, shown_as}
-use Rattle.merger.specs.Sections.{order_at, starts_at}
+use Rattle.merger.specs.Sections.{order_at}
 use Rattle.merger.specs.Walking.{merged_at}
 
 -- what the id list says for a word
@@ -31,28 +29,9 @@ unfolding shown_as
 shown_id v h = rw (le-ltb v 2 h, shown_as)
 
 -- what is written into the beginning
-over_puts : {l w w' : List ℕ} {n : ℕ} → length l ≡ n → length w' ≡ length w → Puts l w w' 0 n → w' ≡ over w 0 l
-unfolding span over
-over_puts {l} {w} {w'} {n} k h x =
-    let e : 0 + n - 0 ≡ n = omega arith in
-    let f : take n w' ≡ l = rw e at x.put in
-    let z : 0 + length l ≡ n = omega arith in
-    let g : drop n w' ≡ drop n w = ext_get_or 0 (drop n w') (drop n w) (simp length-drop (omega arith)) (λ i b. get_or-drop n w' i 0 ∙ (x.rest (n + i) (λ y. omega arith) ∙ sym (get_or-drop n w i 0))) in
-    sym (take-append-drop n w') ∙ rw (f, g, z) refl
-
-pub roots_start : (w : List ℕ) {out : List ℕ} {n count : ℕ} → (n ≤ most) × (work_words * n ≤ length w) → (count ≤ n) × (count ≤ length out) → Putting (span w (starts_at n) (starts_at n + count)) out out 0 count 0
-roots_start w {out} {n} {count} a b =
-    let f = a.1 in
-    let g = b.0 in
-    let h = b.1 in
-    putting_start (omega (arith, span_length w (starts_at n) (starts_at n + count) (omega arith))) (omega arith)
-
-module _ {l w₀ : List ℕ} {count : ℕ} where
-  pub roots_step : {w : List ℕ} {i : ℕ} (v : ℕ) → Putting l w₀ w 0 count i → i < count → v ≡ get_or l i 0 → Putting l w₀ (set w i v) 0 count (i + 1)
-  roots_step {w} {i} v r h e = let z : 0 + i ≡ i = omega arith in rw z at (putting_step r v h e)
-
-  pub roots_end : {w : List ℕ} {i : ℕ} → Putting l w₀ w 0 count i → count ≤ i → w ≡ over w₀ 0 l
-  roots_end r h = over_puts r.whole r.long (putting_end r h)
+pub front_over : (l w : List ℕ) (n : ℕ) → length l ≡ n → l ++ drop n w ≡ over w 0 l
+unfolding over
+front_over l w n e = let z : 0 + length l ≡ n = omega arith in rw z refl
 
 -- the merged node at a source is a whole node
 merged_full : (s w : List ℕ) (n p : ℕ) → Full (merged_at s w n p)

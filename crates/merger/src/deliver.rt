@@ -19,11 +19,9 @@ fn write_nodes(nodes: &[u8], work: &[u32], n: usize, m: usize, out: &mut [u8])
     requires m_in_bounds { size * m ≤ length out.old }
     ensures { out.new ≡ over out.old 0 (flat node_bytes (map (merged_at nodes.now work.now n) (span work.now (order_at n) (order_at n + m)))) }
 {
-    let mut j = 0;
-    while j < m {
+    for j in 0..m {
         let source = work[ORDER * n + j] as usize;
         record::put_node(out, j, merging::merged_node(nodes, work, n, source));
-        j += 1;
     }
 }
 
@@ -33,11 +31,8 @@ fn write_roots(work: &[u32], n: usize, count: usize, out: &mut [u32])
     requires count_le_n { (count ≤ n) × (count ≤ length out.old) }
     ensures { out.new ≡ over out.old 0 (span work.now (starts_at n) (starts_at n + count)) }
 {
-    let mut i = 0;
-    while i < count {
-        out[i] = work[STARTS * n + i];
-        i += 1;
-    }
+    let starts = STARTS * n;
+    out[..count].copy_from_slice(&work[starts..starts + count]);
 }
 
 // The new id that a position's word tells, or the mark for none.
@@ -53,10 +48,8 @@ fn write_ids(work: &[u32], n: usize, ids: &mut [u32])
     requires ids_len { length ids.old ≡ n }
     ensures { ids.new ≡ map (λ p. shown_as (get_or work.now p 0)) (run 0 n) }
 {
-    let mut p = 0;
-    while p < n {
-        ids[p] = shown(work[p]);
-        p += 1;
+    for (p, id) in ids.iter_mut().enumerate() {
+        *id = shown(work[p]);
     }
 }
 

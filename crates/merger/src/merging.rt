@@ -23,12 +23,10 @@ pub(crate) fn merged_node(nodes: &[u8], work: &[u32], n: usize, p: usize) -> Nod
     let mut kids = node.kids;
     let digest = node.digest;
     // Over all fields: a loop of fixed length keeps them in registers.
-    let mut i = 0;
-    while i < FIELDS {
+    for i in 0..FIELDS {
         if i < count {
             kids[i] = work[base + kids[i] as usize] - 2;
         }
-        i += 1;
     }
     Node {
         kind: node.kind,
@@ -50,12 +48,10 @@ fn same_children(a: Node, b: Node) -> bool
     let right = b.kids;
     let count = a.count as usize;
     // Over all fields: a loop of fixed length keeps them in registers.
-    let mut i = 0;
-    while i < FIELDS {
+    for i in 0..FIELDS {
         if (i < count) & (left[i] != right[i]) {
             return false;
         }
-        i += 1;
     }
     true
 }
@@ -85,12 +81,10 @@ fn find_equal(nodes: &[u8], work: &[u32], n: usize, node: Node, count: usize) ->
     requires count_le_fields { node.count ≤ fields }
     ensures { result ≡ lowest (same_node node) (map (λ k. merged_at nodes.now work.now n (get_or work.now (sources_at n + k) 0)) (run 0 count)) }
 {
-    let mut k = 0;
-    while k < count {
+    for k in 0..count {
         if is_like(nodes, work, n, node, work[SOURCES * n + k] as usize) {
             return Some(k);
         }
-        k += 1;
     }
     None
 }

@@ -18,15 +18,12 @@ fn list_holders(nodes: &[u8], work: &mut [u32], n: usize) -> usize
     ensures { Lists nodes.now work.old work.new n result }
 {
     let mut count = 0;
-    let mut p = 0;
-    while p < n {
+    for p in 0..n {
         if record::kind_at(nodes, p) == EXTERNAL {
-            p += 1;
             continue;
         }
         work[HOLDERS * n + count] = p as u32;
         count += 1;
-        p += 1;
     }
     count
 }

@@ -28,17 +28,14 @@ fn list_class(nodes: &[u8], work: &mut [u32], n: usize, m: usize, to: usize, cla
     ensures { Classed nodes.now work.old work.new n m to class result }
 {
     let mut count = 0;
-    let mut k = 0;
-    while k < m {
+    for k in 0..m {
         let source = work[SOURCES * n + k];
         let kind = record::kind_at(nodes, source as usize);
         if class_of(kind) != class {
-            k += 1;
             continue;
         }
         work[to + count] = source;
         count += 1;
-        k += 1;
     }
     count
 }
@@ -59,12 +56,10 @@ fn mark_places(work: &mut [u32], n: usize, m: usize)
     requires { Lined work.old n m }
     ensures { Placed work.old work.new n m }
 {
-    let mut j = 0;
-    while j < m {
+    for j in 0..m {
         let source = work[ORDER * n + j] as usize;
         let id = work[source] as usize - 2;
         work[PLACES * n + id] = j as u32;
-        j += 1;
     }
 }
 
@@ -73,15 +68,12 @@ fn carry(work: &mut [u32], n: usize)
     requires { Movable work.old n }
     ensures { Moved work.old work.new n }
 {
-    let mut p = 0;
-    while p < n {
+    for p in 0..n {
         if work[p] < 2 {
-            p += 1;
             continue;
         }
         let id = work[p] as usize - 2;
         work[p] = work[PLACES * n + id] + 2;
-        p += 1;
     }
 }
 
@@ -93,12 +85,10 @@ fn list_roots(table: &[u8], roots: &[u32], work: &mut [u32], n: usize) -> usize
 {
     let mut at = table::start();
     let mut count = 0;
-    let mut k = 0;
-    while k < roots.len() {
+    for (k, root) in roots.iter().enumerate() {
         at = table::at_root(table, at, k);
-        let id = work[at.base + roots[k] as usize] - 2;
+        let id = work[at.base + *root as usize] - 2;
         let listed = LISTED * n + id as usize;
-        k += 1;
         if work[listed] == 1 {
             continue;
         }

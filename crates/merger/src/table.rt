@@ -43,9 +43,8 @@ pub(crate) fn last(table: &[u8]) -> Cursor
     requires { Few table.now }
     ensures { (result.nodes ≡ node_sum table.now) × (result.roots ≡ root_sum table.now) }
 {
-    let rows = table.len() / record::ROW_SIZE;
     let mut at = start();
-    while at.rows < rows {
+    for _ in 0..table.len() / record::ROW_SIZE {
         at = advance(table, at);
     }
     at
@@ -86,13 +85,11 @@ pub(crate) fn far_root(table: &[u8], roots: &[u32]) -> Option<usize>
     ensures { (ns : List Node) → result ≡ far_root (forests 0 (rows_of table.now) ns roots.now) }
 {
     let mut at = start();
-    let mut k = 0;
-    while k < roots.len() {
+    for (k, root) in roots.iter().enumerate() {
         at = at_root(table, at, k);
-        if at.nodes - at.base <= roots[k] as usize {
+        if at.nodes - at.base <= *root as usize {
             return Some(k);
         }
-        k += 1;
     }
     None
 }
@@ -105,14 +102,12 @@ pub(crate) fn far_child(table: &[u8], nodes: &[u8]) -> Option<(usize, u32)>
 {
     let n = nodes.len() / record::SIZE;
     let mut at = start();
-    let mut p = 0;
-    while p < n {
+    for p in 0..n {
         at = at_node(table, at, p);
         let node = record::node_at(nodes, p);
         if let Some(child) = dense_order::last_from(node, at.nodes - at.base) {
             return Some((p, child));
         }
-        p += 1;
     }
     None
 }
@@ -125,10 +120,8 @@ pub(crate) fn write_bases(table: &[u8], work: &mut [u32], n: usize)
     ensures { Bases table.now work.old work.new n }
 {
     let mut at = start();
-    let mut p = 0;
-    while p < n {
+    for p in 0..n {
         at = at_node(table, at, p);
         work[BASES * n + p] = at.base as u32;
-        p += 1;
     }
 }

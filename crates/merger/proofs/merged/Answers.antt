@@ -1,4 +1,4 @@
-use Rattle.std.specs.Prelude.{Ok, Err}
+use Rattle.std.specs.Prelude.{Err}
 use mathlib.Core.Path.{◌≡◌, refl}
 use borrow.Author.Rules.{rules}
 use Rattle.merger.proofs.Joining.{ranges_refused, past, walk_refused, over, cramped, whole}

@@ -3,7 +3,6 @@ use Rattle.ready.proofs.Trees.{row_of}
 use mathlib.Core.Path.{◌∙◌, sym}
 use Prim.Native.Nat.{◌+◌}
 use native.Mathlib.Omega.{arith}
-use borrow.Author.Rules.{rules}
 use Rattle.ready.proofs.+first_word_lowest.Goals as goal
 
 pub first_word-overflow_add-at : goal.first_word-overflow_add-at

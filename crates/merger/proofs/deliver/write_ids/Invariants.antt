@@ -1,4 +1,3 @@
-use Prim.Native.Nat.{◌-◌}
 use lib.ListN.{get_or}
 use Rattle.record.specs.Lists.{run}
 use Rattle.dense_order.proofs.Filling.{Filled}
@@ -7,6 +6,3 @@ use Rattle.merger.proofs.deliver.write_ids.Given as goal
 
 abbrev pub invariant-loop-p : goal.invariant-loop-p
 invariant-loop-p l = Filled (λ q. shown_as (get_or l.work q 0)) (run 0 l.n) l.initial.ids l.ids l.p
-
-abbrev pub decreases-loop-p : goal.decreases-loop-p
-decreases-loop-p l = l.n - l.p

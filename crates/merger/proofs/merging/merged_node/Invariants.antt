@@ -1,11 +1,6 @@
 use Rattle.merger.proofs.Kids.{child_id}
 use Rattle.dense_order.proofs.Filling.{Renumbering}
-use Rattle.record.specs.Node.{fields}
-use Prim.Native.Nat.{◌-◌}
 use Rattle.merger.proofs.merging.merged_node.Given as goal
 
 abbrev pub invariant-loop-i : goal.invariant-loop-i
 invariant-loop-i l = Renumbering (child_id l.work l.base) l.node l.kids l.i
-
-abbrev pub decreases-loop-i : goal.decreases-loop-i
-decreases-loop-i l = fields - l.i

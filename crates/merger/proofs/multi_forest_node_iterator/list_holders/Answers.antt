@@ -10,9 +10,6 @@ loop-p-init c = keeping_start _ _ _ _
 pub kind_at-requires : goal.kind_at-requires
 kind_at-requires c = let z = c.requires.counted in omega (arith, c.loop-p-test.true)
 
-pub overflow_add-p : goal.overflow_add-p
-overflow_add-p c = let m = c.loop-p.invariant in omega (arith, c.requires.few, c.requires.room, m.some, m.within, m.long, c.loop-p-test.true)
-
 pub loop-p-smaller-then-kind_at-eq-EXTERNAL : goal.loop-p-smaller-then-kind_at-eq-EXTERNAL
 loop-p-smaller-then-kind_at-eq-EXTERNAL c = omega (arith, c.loop-p-test.true)
 
@@ -36,9 +33,6 @@ bounds-work-n c = let m = c.loop-p.invariant in omega (arith, c.requires.few, c.
 
 pub overflow_add-count : goal.overflow_add-count
 overflow_add-count c = let m = c.loop-p.invariant in omega (arith, c.requires.few, c.requires.room, m.some, m.within, m.long, c.loop-p-test.true)
-
-pub overflow_add-p-in-loop-p : goal.overflow_add-p-in-loop-p
-overflow_add-p-in-loop-p c = let m = c.loop-p.invariant in omega (arith, c.requires.few, c.requires.room, m.some, m.within, m.long, c.loop-p-test.true)
 
 pub loop-p-smaller : goal.loop-p-smaller
 loop-p-smaller c = omega (arith, c.loop-p-test.true)

@@ -1,4 +1,4 @@
-use mathlib.Core.Path.{◌∙◌, ap}
+use mathlib.Core.Path.{◌∙◌}
 use Rattle.merger.proofs.multi_forest_node_iterator.replacement.Goals as goal
 
 pub returns : goal.returns

@@ -1,6 +1,4 @@
 use Rattle.merger.proofs.Rooting.{Rooting}
-use lib.ListN.{length}
-use Prim.Native.Nat.{◌-◌}
 use Rattle.merger.proofs.multi_forest_node_iterator.walk_roots.Given as goal
 
 abbrev pub invariant-loop-k : goal.invariant-loop-k

@@ -1,5 +1,5 @@
 use mathlib.Core.Path.{◌≡◌}
-use Prim.Native.Nat.{◌-◌, ◌/◌}
+use Prim.Native.Nat.{◌/◌}
 use lib.ListN.{length}
 use Rattle.record.specs.Node.{size}
 use Rattle.merger.specs.Table.{ToNode}
@@ -8,6 +8,3 @@ use Rattle.merger.proofs.table.far_child.Given as goal
 
 abbrev pub invariant-loop-p : goal.invariant-loop-p
 invariant-loop-p l = (l.n ≡ length l.nodes / size) × ToNode l.table l.at l.p × Near l.table l.nodes l.p
-
-abbrev pub decreases-loop-p : goal.decreases-loop-p
-decreases-loop-p l = l.n - l.p

@@ -14,11 +14,11 @@ at_root-at-requires c = record { few = c.requires.few; to_root = c.loop-k.invari
 pub overflow_sub-at : goal.overflow_sub-at
 overflow_sub-at c = omega (arith, base_low c.args.table.now _ c.at_root-at.ensures.toward.on)
 
-pub overflow_cast-roots : goal.overflow_cast-roots
-overflow_cast-roots c = omega (arith, c.type_inv.roots c.loop-k.k)
+pub overflow_cast-root : goal.overflow_cast-root
+overflow_cast-root c = omega (arith, c.type_inv.roots c.loop-k.k)
 
-pub returns-then-at-roots : goal.returns-then-at-roots
-returns-then-at-roots c =
+pub returns-then-at-root : goal.returns-then-at-root
+returns-then-at-root c =
     let l = c.loop-k in
     inside_found c.args.table.now c.args.roots.now c.requires.roots_len l.k l.invariant.1 _ c.at_root-at.ensures c.loop-k-test.true (omega arith)
 

@@ -1,11 +1,6 @@
-use Prim.Native.Nat.{◌-◌}
-use lib.ListN.{length}
 use Rattle.merger.specs.Table.{ToRoot}
 use Rattle.merger.proofs.RootRanges.{Inside}
 use Rattle.merger.proofs.table.far_root.Given as goal
 
 abbrev pub invariant-loop-k : goal.invariant-loop-k
 invariant-loop-k l = ToRoot l.table l.at l.k × Inside l.table l.roots l.k
-
-abbrev pub decreases-loop-k : goal.decreases-loop-k
-decreases-loop-k l = length l.roots - l.k
