@@ -15,7 +15,7 @@ use Rattle.forest.specs.Merge.{node_sum}
 use Rattle.room.specs.Sections.{Out}
 use Rattle.merger.specs.Sections.{bases_at}
 use Rattle.merger.specs.Table.{AtNode, Bases}
-use Rattle.merger.specs.declared.Cursor.{Cursor}
+use Rattle.merger.specs.declared.table.Cursor.{Cursor}
 use Rattle.merger.proofs.Cuts.{nodes_cut}
 use Rattle.merger.proofs.Cursors.{node_here}
 

@@ -17,7 +17,7 @@ use Rattle.forest.specs.Graph.{forests, far_kid, far_child, no_node, at}
 use Rattle.forest.specs.Merge.{node_sum}
 use Rattle.sorting.proofs.Uses.{at_node_lem}
 use Rattle.merger.specs.Table.{AtNode}
-use Rattle.merger.specs.declared.Cursor.{Cursor}
+use Rattle.merger.specs.declared.table.Cursor.{Cursor}
 use Rattle.merger.proofs.Cuts.{node_count, cut, cut_long, nodes_cut}
 use Rattle.merger.proofs.Cursors.{node_here}
 

@@ -12,7 +12,7 @@ use Rattle.forest.specs.Graph.{forests, joined_roots}
 use Rattle.forest.specs.Lists.{sum}
 use Rattle.forest.specs.Merge.{node_sum, root_sum}
 use Rattle.merger.specs.Table.{roots_before, On, ToNode, ToRoot, AtNode, AtRoot, starts}
-use Rattle.merger.specs.declared.Cursor.{Cursor}
+use Rattle.merger.specs.declared.table.Cursor.{Cursor}
 use Rattle.merger.proofs.Sums.{before, no_row, before_none, before_next, before_most, length_rows_of}
 use Rattle.merger.proofs.Cuts.{node_count, root_count, cut, cut_long, cut_at, roots_cut}
 use Rattle.merger.proofs.Rows.{on_start, on_nodes, on_roots, on_base}

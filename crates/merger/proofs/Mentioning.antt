@@ -20,7 +20,7 @@ use Rattle.room.proofs.Spans.{span_length, span_empty, span_same, span_set}
 use Rattle.merger.specs.Rooms.{id_on, Ends, Rooted, mentioned, Mentions}
 use Rattle.merger.specs.Sections.{listed_at, starts_at}
 use Rattle.merger.specs.Table.{ToRoot, AtRoot, starts}
-use Rattle.merger.specs.declared.Cursor.{Cursor}
+use Rattle.merger.specs.declared.table.Cursor.{Cursor}
 use Rattle.merger.proofs.Firsts.{firsts_same, has_snoc, bit, bit_true, bit_false}
 use Rattle.merger.proofs.Cursors.{toward_start, toward_next, root_position, starts_long}
 

@@ -18,7 +18,7 @@ use Rattle.forest.specs.Graph.{forests, far_root}
 use Rattle.forest.specs.Merge.{root_sum}
 use Rattle.dense_order.proofs.Lowest.{further, further_zero, further_here, further_there}
 use Rattle.merger.specs.Table.{AtRoot}
-use Rattle.merger.specs.declared.Cursor.{Cursor}
+use Rattle.merger.specs.declared.table.Cursor.{Cursor}
 use Rattle.merger.proofs.Cuts.{root_count, cut, cut_long, roots_cut}
 use Rattle.merger.proofs.Cursors.{root_here}
 

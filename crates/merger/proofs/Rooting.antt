@@ -13,7 +13,7 @@ use Rattle.claims.specs.Searches.{get_d_mem}
 use Rattle.dense_order.specs.Found.{Checked}
 use Rattle.merger.specs.Table.{ToRoot, AtRoot, starts}
 use Rattle.merger.specs.Walking.{Charted, word, Stands, went_of, Came, Walks, Begun}
-use Rattle.merger.specs.declared.Cursor.{Cursor}
+use Rattle.merger.specs.declared.table.Cursor.{Cursor}
 use Rattle.merger.proofs.Cursors.{toward_start, toward_next, root_position, starts_long}
 use Rattle.merger.proofs.Fine.{fine_start}
 use Rattle.merger.proofs.Going.{Gone, gone_start, gone_done, gone_step, gone_stops}

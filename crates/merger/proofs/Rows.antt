@@ -12,7 +12,7 @@ use Rattle.record.specs.declared.Row.{Row}
 use Rattle.forest.specs.Lists.{sum}
 use Rattle.forest.specs.Merge.{node_sum, root_sum}
 use Rattle.merger.specs.Table.{nodes_before, roots_before, place_at, On}
-use Rattle.merger.specs.declared.Cursor.{Cursor}
+use Rattle.merger.specs.declared.table.Cursor.{Cursor}
 use Rattle.merger.proofs.Sums.{before, before_next, before_all, before_fits, length_rows_of, row_is, row_nodes, row_roots}
 use Rattle.merger.proofs.Cuts.{node_count, root_count}
 

@@ -9,7 +9,7 @@ use Rattle.forest.specs.Lists.{sum}
 use Rattle.forest.specs.Merge.{most_forests}
 use Rattle.room.specs.Sections.{Out}
 use Rattle.merger.specs.Sections.{bases_at}
-use Rattle.merger.specs.declared.Cursor.{Cursor}
+use Rattle.merger.specs.declared.table.Cursor.{Cursor}
 
 -- how many nodes and how many roots the first i rows have
 unfoldable pub nodes_before : List Row → ℕ → ℕ
@@ -26,6 +26,11 @@ place_at rows (suc i) = record { rows = suc i; base = nodes_before rows i; nodes
 -- the table has no more rows than there may be forests
 abbrev pub Few : List ℕ → Type 0
 Few t = length t / row_size ≤ most_forests
+
+-- what is true of a table that is gone through: it is that short, and its entries are bytes
+pub record Legible (t : List ℕ) : Type 0 where
+  pub few : Few t
+  pub octets : (j : ℕ) → get_or t j 0 < 256
 
 -- c is a place of the table
 pub record On (t : List ℕ) (c : Cursor) : Type 0 where

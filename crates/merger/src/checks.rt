@@ -5,9 +5,9 @@ ghost use Rattle.forest.specs.Lent.{first};
 ghost use Rattle.forest.specs.Merge.{node_sum, root_sum};
 ghost use Rattle.dense_order.specs.Found.{check_of};
 ghost use Rattle.merger.specs.Steps.{size_checks, range_checks};
-ghost use Rattle.merger.specs.Table.{Few};
 
-use crate::{MOST_DEPTH, MOST_FORESTS, table};
+use crate::table::Table;
+use crate::{MOST_DEPTH, MOST_FORESTS};
 use dense_order::{MOST, WORK_WORDS};
 use forest::Reply;
 
@@ -28,7 +28,7 @@ pub(crate) fn sizes(
     if MOST_FORESTS < table.len() / record::ROW_SIZE {
         return Err(Reply::TooMany);
     }
-    let sums = table::last(table);
+    let sums = Table { bytes: table }.last();
     if (MOST < sums.nodes) | (MOST < sums.roots) {
         return Err(Reply::TooMany);
     }
@@ -51,18 +51,17 @@ pub(crate) fn sizes(
 }
 
 // Refuses a bad record, a root past its forest's end and a child past it.
-pub(crate) fn examined(table: &[u8], nodes: &[u8], roots: &[u32]) -> Result<(), Reply>
-    requires few { Few table.now }
+pub(crate) fn examined(table: &Table, nodes: &[u8], roots: &[u32]) -> Result<(), Reply>
     requires nodes_len { (length nodes.now ≡ size * node_sum table.now) × (length roots.now ≡ root_sum table.now) }
     ensures { result ≡ check_of (first (range_checks (record { table = table.now; nodes = nodes.now; roots = roots.now }))) }
 {
     if let Some(p) = dense_order::first_bad(nodes) {
         return Err(Reply::BadRecord(p as u64));
     }
-    if let Some(k) = table::far_root(table, roots) {
+    if let Some(k) = table.far_root(roots) {
         return Err(Reply::RootRange(k as u64));
     }
-    if let Some((p, child)) = table::far_child(table, nodes) {
+    if let Some((p, child)) = table.far_child(nodes) {
         return Err(Reply::ChildRange(p as u64, child as u64));
     }
     Ok(())

@@ -7,6 +7,7 @@ ghost use Rattle.forest.specs.Merge.{merge as merge_of};
 ghost use Rattle.merger.specs.Steps.{Sized, Past, Ends, Joins};
 
 use forest::Reply;
+use table::Table;
 
 mod checks;
 mod deliver;
@@ -49,19 +50,9 @@ const LISTED: usize = 7;
 
 const STARTS: usize = 8;
 
-// A place in the table: how many rows lie before it, the position of the first node of the last of them, and how many nodes and roots all
-// of them have.
-#[derive(Clone, Copy)]
-struct Cursor {
-    rows: usize,
-    base: usize,
-    nodes: usize,
-    roots: usize,
-}
-
 // Walks all forests in a room of zeros; says how many nodes are merged.
 fn walked(
-    table: &[u8],
+    table: &Table,
     nodes: &[u8],
     roots: &[u32],
     limit: u32,
@@ -73,7 +64,7 @@ fn walked(
     ensures { Ends limit (record { table = table.now; nodes = nodes.now; roots = roots.now }) work.new n result }
 {
     room::clear(work);
-    table::write_bases(table, work, n);
+    table.write_bases(work, n);
     let holders = multi_forest_node_iterator::sort_holders(nodes, work, n);
     multi_forest_node_iterator::walk_roots(table, nodes, roots, work, n, holders, limit)
 }
@@ -91,10 +82,11 @@ fn merged(
     requires { Sized limit (record { table = table.now; nodes = nodes.now; roots = roots.now }) work.old }
     ensures { Joins limit (record { table = table.now; nodes = nodes.now; roots = roots.now }) records starts work.new (length nodes.now / size) result }
 {
-    checks::examined(table, nodes, roots)?;
+    let table = Table { bytes: table };
+    checks::examined(&table, nodes, roots)?;
     let n = nodes.len() / record::SIZE;
-    let m = walked(table, nodes, roots, limit, work, n)?;
-    let count = result::settle(table, nodes, roots, work, n, m);
+    let m = walked(&table, nodes, roots, limit, work, n)?;
+    let count = result::settle(&table, nodes, roots, work, n, m);
     if (records < m) | (starts < count) {
         return Err(Reply::NoRoom(m as u64, count as u64));
     }

@@ -5,10 +5,11 @@ ghost use Rattle.record.specs.Node.{nodes_of};
 ghost use Rattle.record.specs.declared.Node.{Node};
 ghost use Rattle.forest.specs.Graph.{replacement as replacement_of};
 ghost use Rattle.forest.specs.Walk.{State, visit, walk};
-ghost use Rattle.merger.specs.Table.{Few, starts};
+ghost use Rattle.merger.specs.Table.{starts};
 ghost use Rattle.merger.specs.Walking.{Roomy, Lists, Shelved, Held, Charted, Somewhere, Inside, Stands, under, Walks, Begun};
 
-use crate::{BASES, EXTERNAL, HOLDERS, SPARE, merging, table};
+use crate::table::{Cursor, Table};
+use crate::{BASES, EXTERNAL, HOLDERS, SPARE, merging};
 use forest::Reply;
 use record::{Node, WORDS};
 
@@ -126,7 +127,7 @@ fn walk_below(
 
 // Takes the roots of all forests in their order.
 pub(crate) fn walk_roots(
-    table: &[u8],
+    table: &Table,
     nodes: &[u8],
     roots: &[u32],
     work: &mut [u32],
@@ -134,14 +135,13 @@ pub(crate) fn walk_roots(
     holders: usize,
     limit: u32,
 ) -> Result<usize, Reply>
-    requires few { Few table.now }
     requires begun { Begun table.now nodes.now roots.now work.old n holders }
     ensures { (g : List Node) → Charted nodes.now work.old n holders g → Walks g work.old work.new n [] (walk g limit (starts table.now roots.now)) result }
 {
-    let mut at = table::start();
+    let mut at = Cursor::start();
     let mut merged = 0;
     for (k, root) in roots.iter().enumerate() {
-        at = table::at_root(table, at, k);
+        at = table.at_root(at, k);
         merged = open_node(
             nodes,
             work,

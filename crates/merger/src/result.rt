@@ -9,10 +9,11 @@ ghost use Rattle.claims.specs.Sound.{Finished};
 ghost use Rattle.merger.specs.Rooms.{Sourced, Classed, Arranged, Lined, Placed, Movable, Moved, Rooted, Mentions};
 ghost use Rattle.merger.specs.Sections.{bases_at};
 ghost use Rattle.merger.specs.Settling.{Over, Settled};
-ghost use Rattle.merger.specs.Table.{Few, starts};
+ghost use Rattle.merger.specs.Table.{starts};
 ghost use Rattle.merger.specs.Walking.{Ended};
 
-use crate::{BLOCK, EXTERNAL, INTERNAL, LISTED, ORDER, PLACES, SOURCES, SPARE, STARTS, table};
+use crate::table::{Cursor, Table};
+use crate::{BLOCK, EXTERNAL, INTERNAL, LISTED, ORDER, PLACES, SOURCES, SPARE, STARTS};
 
 // The class of a kind, by its lowest kind.
 fn class_of(kind: u32) -> u32
@@ -78,15 +79,14 @@ fn carry(work: &mut [u32], n: usize)
 }
 
 // Step 4: lists the new ids of the roots, first mention kept, repeats dropped; says how many they are.
-fn list_roots(table: &[u8], roots: &[u32], work: &mut [u32], n: usize) -> usize
-    requires few { Few table.now }
+fn list_roots(table: &Table, roots: &[u32], work: &mut [u32], n: usize) -> usize
     requires rooted { Rooted table.now roots.now work.old n }
     ensures { Mentions table.now roots.now work.old work.new n result }
 {
-    let mut at = table::start();
+    let mut at = Cursor::start();
     let mut count = 0;
     for (k, root) in roots.iter().enumerate() {
-        at = table::at_root(table, at, k);
+        at = table.at_root(at, k);
         let id = work[at.base + *root as usize] - 2;
         let listed = LISTED * n + id as usize;
         if work[listed] == 1 {
@@ -101,14 +101,13 @@ fn list_roots(table: &[u8], roots: &[u32], work: &mut [u32], n: usize) -> usize
 
 // Puts the m merged nodes into their canonical order, carries every id through it and lists the roots; says how many roots there are.
 pub(crate) fn settle(
-    table: &[u8],
+    table: &Table,
     nodes: &[u8],
     roots: &[u32],
     work: &mut [u32],
     n: usize,
     m: usize,
 ) -> usize
-    requires few { Few table.now }
     requires roots_len { length roots.now ≡ root_sum table.now }
     requires over { Over nodes.now work.old n m (starts table.now roots.now) }
     ensures { (g : List Node) (t : State) → Ended nodes.now work.old n m g t → ((x : ℕ) → Memᴰ x (starts table.now roots.now) → Finished t x) → Settled nodes.now work.new n m result g (starts table.now roots.now) t }

@@ -5,123 +5,144 @@ ghost use Rattle.record.specs.declared.Node.{Node};
 ghost use Rattle.forest.specs.Graph.{forests, far_root, far_child};
 ghost use Rattle.forest.specs.Lent.{work_words, most};
 ghost use Rattle.forest.specs.Merge.{node_sum, root_sum};
-ghost use Rattle.merger.specs.Table.{Few, On, ToNode, ToRoot, AtNode, AtRoot, Bases};
+ghost use Rattle.merger.specs.Table.{Legible, On, ToNode, ToRoot, AtNode, AtRoot, Bases};
 
-use crate::{BASES, Cursor};
-use record::Row;
+use crate::BASES;
+use std::marker::Model;
 
-// The place before the first row.
-pub(crate) fn start() -> Cursor
-    ensures { result ≡ record { rows = 0; base = 0; nodes = 0; roots = 0 } }
-{
-    Cursor {
-        rows: 0,
-        base: 0,
-        nodes: 0,
-        roots: 0,
-    }
+// A table: it has no more rows than there may be forests.
+#[derive(Drop)]
+pub(crate) struct Table<'a> {
+    pub(crate) bytes: &'a [u8],
 }
 
-// The place one row further on.
-fn advance(table: &[u8], at: Cursor) -> Cursor
-    requires few { Few table.now }
-    requires on { On table.now at }
-    requires rows_in_bounds { at.rows < length table.now / row_size }
-    ensures { (result.rows ≡ at.rows + 1) × On table.now result }
-{
-    let row = record::row_at(table, at.rows);
-    Cursor {
-        rows: at.rows + 1,
-        base: at.nodes,
-        nodes: at.nodes + row.nodes as usize,
-        roots: at.roots + row.roots as usize,
-    }
+impl<'a> Model for Table<'a> {
+    ghost Value = { List ℕ };
+
+    ghost view = { λ t. t.bytes.now };
+
+    ghost invariant = { λ t. Legible t.bytes.now };
 }
 
-// The place behind the last whole row.
-pub(crate) fn last(table: &[u8]) -> Cursor
-    requires { Few table.now }
-    ensures { (result.nodes ≡ node_sum table.now) × (result.roots ≡ root_sum table.now) }
-{
-    let mut at = start();
-    for _ in 0..table.len() / record::ROW_SIZE {
-        at = advance(table, at);
-    }
-    at
+// A place in the table: how many rows lie before it, the position of the first node of the last of them, and how many nodes and roots all
+// of them have.
+#[derive(Clone, Copy)]
+pub(crate) struct Cursor {
+    pub(crate) rows: usize,
+    pub(crate) base: usize,
+    pub(crate) nodes: usize,
+    pub(crate) roots: usize,
 }
 
-// The place behind the row that has position p, from a place that is not past it.
-pub(crate) fn at_node(table: &[u8], from: Cursor, p: usize) -> Cursor
-    requires few { Few table.now }
-    requires to_node { ToNode table.now from p }
-    requires p_bound { p < node_sum table.now }
-    ensures { AtNode table.now result p }
-{
-    let mut at = from;
-    while at.nodes <= p {
-        at = advance(table, at);
-    }
-    at
-}
-
-// The place behind the row that has root k, from a place that is not past it.
-pub(crate) fn at_root(table: &[u8], from: Cursor, k: usize) -> Cursor
-    requires few { Few table.now }
-    requires to_root { ToRoot table.now from k }
-    requires k_bound { k < root_sum table.now }
-    ensures { AtRoot table.now result k }
-{
-    let mut at = from;
-    while at.roots <= k {
-        at = advance(table, at);
-    }
-    at
-}
-
-// The lowest place of a root that names no node of its forest.
-pub(crate) fn far_root(table: &[u8], roots: &[u32]) -> Option<usize>
-    requires few { Few table.now }
-    requires roots_len { length roots.now ≡ root_sum table.now }
-    ensures { (ns : List Node) → result ≡ far_root (forests 0 (rows_of table.now) ns roots.now) }
-{
-    let mut at = start();
-    for (k, root) in roots.iter().enumerate() {
-        at = at_root(table, at, k);
-        if at.nodes - at.base <= *root as usize {
-            return Some(k);
+impl Cursor {
+    // The place before the first row.
+    pub(crate) fn start() -> Cursor
+        ensures { result ≡ record { rows = 0; base = 0; nodes = 0; roots = 0 } }
+    {
+        Cursor {
+            rows: 0,
+            base: 0,
+            nodes: 0,
+            roots: 0,
         }
     }
-    None
 }
 
-// The first node with a child past its forest's end, and its last such child.
-pub(crate) fn far_child(table: &[u8], nodes: &[u8]) -> Option<(usize, u32)>
-    requires few { Few table.now }
-    requires nodes_len { length nodes.now ≡ size * node_sum table.now }
-    ensures { (rs : List ℕ) → result ≡ far_child (forests 0 (rows_of table.now) (nodes_of nodes.now) rs) }
-{
-    let n = nodes.len() / record::SIZE;
-    let mut at = start();
-    for p in 0..n {
-        at = at_node(table, at, p);
-        let node = record::node_at(nodes, p);
-        if let Some(child) = dense_order::last_from(node, at.nodes - at.base) {
-            return Some((p, child));
+impl Table<'_> {
+    // The place one row further on.
+    fn advance(&self, at: Cursor) -> Cursor
+        requires on { On self.now at }
+        requires rows_in_bounds { at.rows < length self.now / row_size }
+        ensures { (result.rows ≡ at.rows + 1) × On self.now result }
+    {
+        let row = record::row_at(self.bytes, at.rows);
+        Cursor {
+            rows: at.rows + 1,
+            base: at.nodes,
+            nodes: at.nodes + row.nodes as usize,
+            roots: at.roots + row.roots as usize,
         }
     }
-    None
-}
 
-// Writes for each position the position of the first node of its forest.
-pub(crate) fn write_bases(table: &[u8], work: &mut [u32], n: usize)
-    requires few { Few table.now }
-    requires n_value { (n ≡ node_sum table.now) × (n ≤ most) }
-    requires n_in_bounds { work_words * n ≤ length work.old }
-    ensures { Bases table.now work.old work.new n }
-{
-    let mut at = start();
-    for p in 0..n {
-        at = at_node(table, at, p);
-        work[BASES * n + p] = at.base as u32;
+    // The place behind the last whole row.
+    pub(crate) fn last(&self) -> Cursor
+        ensures { (result.nodes ≡ node_sum self.now) × (result.roots ≡ root_sum self.now) }
+    {
+        let mut at = Cursor::start();
+        for _ in 0..self.bytes.len() / record::ROW_SIZE {
+            at = self.advance(at);
+        }
+        at
+    }
+
+    // The place behind the row that has position p, from a place that is not past it.
+    pub(crate) fn at_node(&self, from: Cursor, p: usize) -> Cursor
+        requires to_node { ToNode self.now from p }
+        requires p_bound { p < node_sum self.now }
+        ensures { AtNode self.now result p }
+    {
+        let mut at = from;
+        while at.nodes <= p {
+            at = self.advance(at);
+        }
+        at
+    }
+
+    // The place behind the row that has root k, from a place that is not past it.
+    pub(crate) fn at_root(&self, from: Cursor, k: usize) -> Cursor
+        requires to_root { ToRoot self.now from k }
+        requires k_bound { k < root_sum self.now }
+        ensures { AtRoot self.now result k }
+    {
+        let mut at = from;
+        while at.roots <= k {
+            at = self.advance(at);
+        }
+        at
+    }
+
+    // The lowest place of a root that names no node of its forest.
+    pub(crate) fn far_root(&self, roots: &[u32]) -> Option<usize>
+        requires roots_len { length roots.now ≡ root_sum self.now }
+        ensures { (ns : List Node) → result ≡ far_root (forests 0 (rows_of self.now) ns roots.now) }
+    {
+        let mut at = Cursor::start();
+        for (k, root) in roots.iter().enumerate() {
+            at = self.at_root(at, k);
+            if at.nodes - at.base <= *root as usize {
+                return Some(k);
+            }
+        }
+        None
+    }
+
+    // The first node with a child past its forest's end, and its last such child.
+    pub(crate) fn far_child(&self, nodes: &[u8]) -> Option<(usize, u32)>
+        requires nodes_len { length nodes.now ≡ size * node_sum self.now }
+        ensures { (rs : List ℕ) → result ≡ far_child (forests 0 (rows_of self.now) (nodes_of nodes.now) rs) }
+    {
+        let n = nodes.len() / record::SIZE;
+        let mut at = Cursor::start();
+        for p in 0..n {
+            at = self.at_node(at, p);
+            let node = record::node_at(nodes, p);
+            if let Some(child) = dense_order::last_from(node, at.nodes - at.base) {
+                return Some((p, child));
+            }
+        }
+        None
+    }
+
+    // Writes for each position the position of the first node of its forest.
+    pub(crate) fn write_bases(&self, work: &mut [u32], n: usize)
+        requires n_value { (n ≡ node_sum self.now) × (n ≤ most) }
+        requires n_in_bounds { work_words * n ≤ length work.old }
+        ensures { Bases self.now work.old work.new n }
+    {
+        let mut at = Cursor::start();
+        for p in 0..n {
+            at = self.at_node(at, p);
+            work[BASES * n + p] = at.base as u32;
+        }
     }
 }

@@ -1,12 +1,16 @@
 use Rattle.std.specs.Prelude.{Err}
 use mathlib.Core.Path.{◌≡◌, refl}
+use native.Mathlib.Omega.{arith}
 use borrow.Author.Rules.{rules}
 use Rattle.merger.proofs.Joining.{ranges_refused, past, walk_refused, over, cramped, whole}
 use Rattle.merger.proofs.Passing.{sizes_fit}
 use Rattle.merger.proofs.merged.Goals as goal
 
+pub invariant_of-table : goal.invariant_of-table
+invariant_of-table c = record { few = (sizes_fit c.requires).few; octets = λ j. omega (arith, c.type_inv.table j) }
+
 pub examined-requires : goal.examined-requires
-examined-requires c = let z = sizes_fit c.requires in record { few = z.few; nodes_len = (z.nodes, z.roots) }
+examined-requires c = let z = sizes_fit c.requires in record { nodes_len = (z.nodes, z.roots) }
 
 pub returns-in_err-examined : goal.returns-in_err-examined
 returns-in_err-examined c =
@@ -37,7 +41,7 @@ settle-count-requires c =
     let a = past x.records x.starts 0 c.requires q.result q.ensures c.in_ok-examined.was in
     let k = c.walked in
     let z = sizes_fit c.requires in
-    record { few = z.few; roots_len = z.roots; over = over x.records x.starts _ a k.ensures _ c.in_ok-m.was }
+    record { roots_len = z.roots; over = over x.records x.starts _ a k.ensures _ c.in_ok-m.was }
 
 pub returns-then-records-m : goal.returns-then-records-m
 returns-then-records-m c =

@@ -12,7 +12,7 @@ loop-k-init c = rooting_start _ _ c.start-at.ensures c.requires.begun
 pub at_root-at-requires : goal.at_root-at-requires
 at_root-at-requires c =
     let a = c.loop-k.invariant in
-    record { few = c.requires.few; to_root = a.toward; k_bound = let l = c.requires.begun.long in omega arith }
+    record { to_root = a.toward; k_bound = let l = c.requires.begun.long in omega arith }
 
 pub bounds-roots-k : goal.bounds-roots-k
 bounds-roots-k c = omega arith

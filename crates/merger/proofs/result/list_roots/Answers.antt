@@ -15,7 +15,7 @@ pub loop-k-init : goal.loop-k-init
 loop-k-init c = mentioning_start c.requires.rooted _ c.start-at.ensures
 
 pub at_root-at-requires : goal.at_root-at-requires
-at_root-at-requires c = record { few = c.requires.few; to_root = c.loop-k.invariant.toward; k_bound = omega (arith, c.requires.rooted.long) }
+at_root-at-requires c = record { to_root = c.loop-k.invariant.toward; k_bound = omega (arith, c.requires.rooted.long) }
 
 pub overflow_cast-id : goal.overflow_cast-id
 overflow_cast-id c = let e = ends (goal.at.overflow_cast-id c).After-at_root-at in omega arith

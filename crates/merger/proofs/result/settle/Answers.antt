@@ -21,7 +21,7 @@ list_roots-requires c =
     let one = c.arrange in
     let two = c.mark_places in
     let three = c.carry in
-    record { few = c.requires.few; rooted = rooted c.requires.over.ended one.auto.work one.ensures two.auto.work two.ensures three.auto.work three.ensures _ _ c.requires.roots_len c.requires.over.roots }
+    record { rooted = rooted c.requires.over.ended one.auto.work one.ensures two.auto.work two.ensures three.auto.work three.ensures _ _ c.requires.roots_len c.requires.over.roots }
 
 pub returns : goal.returns
 returns c =
