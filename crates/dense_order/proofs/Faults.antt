@@ -13,7 +13,9 @@ use lib.ListN.{length}
 use Rattle.record.specs.Node.{size, node_at, nodes_of, children, class_of, class, rank, is_external}
 use Rattle.record.specs.Order.{compared, is_less, before}
 use Rattle.record.specs.declared.Node.{Node}
-use Rattle.record.specs.declared.Order.{Order}
+use Rattle.std.specs.Ordering.{is_lt}
+use Rattle.std.specs.declared.cmp.Ordering.{Ordering}
+use Rattle.std.specs.declared.cmp.Ordering.TheVariants.{Less, Equal, Greater}
 use Rattle.forest.specs.Lists.{last_of}
 use Rattle.forest.specs.Lent.{when, naming, first}
 use Rattle.forest.specs.Validate.{forward, fault, faults, node_faults}
@@ -46,9 +48,11 @@ class_falls n m = by_kinds n.kind m.kind
 pub rises_other : (k : ℕ) (x : Bool) → (k ≡ 0 → ⊥) → true ≡ (not (eqb k 0) || x)
 rises_other k x h = rw (ne_eqb k 0 h)
 
-pub rises_compared : (k : ℕ) {a b x y : List ℕ} → k ≡ 0 → x ≡ a → y ≡ b → (o : Order) → compared x y ≡ o → is_less o ≡ (not (eqb k 0) || before a b)
-unfolding before
-rises_compared k z p q o e = rw (eq-eqb k 0 z, ← p, ← q, e)
+pub rises_compared : (k : ℕ) {a b x y : List ℕ} → k ≡ 0 → x ≡ a → y ≡ b → (o : Ordering) (r : Bool) → o ≡ compared x y → r ≡ is_lt o → r ≡ (not (eqb k 0) || before a b)
+unfolding before is_less
+rises_compared k z p q Less r e h = rw (eq-eqb k 0 z, ← p, ← q, ← e) h
+rises_compared k z p q Equal r e h = rw (eq-eqb k 0 z, ← p, ← q, ← e) h
+rises_compared k z p q Greater r e h = rw (eq-eqb k 0 z, ← p, ← q, ← e) h
 
 module _ (i : ℕ) {n m : Node} (a : n ≡ m) where
   pub forward_child_lem : (c : ℕ) → (last_of (leb i) (children n)) ≡ Some c → Err (ForwardReference i c) ≡ check_of (forward i m)

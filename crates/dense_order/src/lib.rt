@@ -13,7 +13,7 @@ ghost use Rattle.dense_order.specs.Kinds.{Blank};
 ghost use Rattle.dense_order.specs.Steps.{size_checks, forest_checks, Fitting, Answers};
 
 use forest::Reply;
-use record::{Node, Order};
+use record::Node;
 
 mod deliver;
 mod order;
@@ -74,12 +74,7 @@ fn digest_rises(nodes: &[u8], i: usize, kind: u32) -> bool
     }
     let previous_digest = record::digest_at(nodes, i - 1);
     let digest = record::digest_at(nodes, i);
-    let order = record::compare(previous_digest, digest);
-    match order {
-        Order::Less => true,
-        Order::Equal => false,
-        Order::Greater => false,
-    }
+    record::compare(previous_digest, digest).is_lt()
 }
 
 // Refuses record `i` for its last child that is not below it.

@@ -5,7 +5,7 @@ ghost use Rattle.std.specs.Prelude.{◌≡◌};
 ghost use Rattle.forest.specs.Reply.{row as row_of, told};
 
 // The answer of every entry point.
-#[derive(Clone, Copy)]
+#[derive(Clone, Copy, PartialEq, Eq)]
 pub enum Reply {
     Accepted(u64, u64),
     BadBuffers(u64),
@@ -24,7 +24,7 @@ pub enum Reply {
 }
 
 // A reply's number and its two values.
-#[derive(Clone, Copy)]
+#[derive(Clone, Copy, PartialEq, Eq)]
 pub struct Told {
     pub number: u32,
     pub first: u64,

@@ -1,12 +1,13 @@
 -- Facts about truth values and lists of numbers that every law uses.
 -- Assumes nothing.
 use Prim.Native.Nat.{ℕ}
-use mathlib.Core.Path.{◌≡◌, refl}
+use mathlib.Core.Path.{◌≡◌, refl, sym, ◌∙◌}
 use mathlib.Core.Bool.{Bool, true, false, ◌&&◌, ◌||◌}
 use mathlib.Core.List.{List, [], ◌∷◌}
 use native.Mathlib.Omega.{arith}
 use lib.Dec.{eqb}
-use borrow.Author.Tests.{eqb-true, eq-eqb}
+use lib.Pointwise.{pointwise, bytes_decides}
+use Rattle.std.proofs.lemmas.Cmp.{nat_list_eq_equiv}
 use Rattle.record.specs.Lists.{same}
 
 -- two different constructors that are equated
@@ -21,18 +22,16 @@ pub either_false : (a b : Bool) → (a || b) ≡ false → (a ≡ false) × (b �
 either_false true b e = (cc, cc)
 either_false false b e = (refl, e)
 
-pub same_eq : (a b : List ℕ) → same a b ≡ true → a ≡ b
+-- the test is the library's
+pub same_pointwise : (a b : List ℕ) → same a b ≡ pointwise eqb a b
 unfolding same
-same_eq [] [] e = refl
-same_eq [] (b ∷ vs) e = cc
-same_eq (a ∷ us) [] e = cc
-same_eq (a ∷ us) (b ∷ vs) e =
-    let (h, t) = both_true (eqb a b) (same us vs) e in
-    let p : a ≡ b = eqb-true a b h in
-    let q : us ≡ vs = same_eq us vs t in
-    cc
+same_pointwise [] [] = refl
+same_pointwise [] (b ∷ vs) = refl
+same_pointwise (a ∷ us) [] = refl
+same_pointwise (a ∷ us) (b ∷ vs) = rw (same_pointwise us vs)
+
+pub same_eq : (a b : List ℕ) → same a b ≡ true → a ≡ b
+same_eq a b e = (bytes_decides a b).0 (sym (same_pointwise a b) ∙ e)
 
 pub same_refl : (a : List ℕ) → same a a ≡ true
-unfolding same
-same_refl [] = refl
-same_refl (a ∷ us) = rw (eq-eqb a a refl, same_refl us)
+same_refl a = same_pointwise a a ∙ nat_list_eq_equiv.refl a

@@ -6,5 +6,4 @@ pub mod RoundTrip
 pub mod Nodes
 pub mod Readings
 pub mod Puts
-pub mod Compares
 pub mod Rules

@@ -1,12 +1,14 @@
 -- Laws of little-endian numbers in a list of bytes. Assumes nothing.
-use Prim.Native.Nat.{ℕ, suc, ◌+◌, ◌*◌, ◌<◌, ◌≤◌}
-use mathlib.Core.Path.{◌≡◌, refl}
-use mathlib.Core.List.{List}
+use Prim.Native.Nat.{ℕ, zero, suc, ◌+◌, ◌*◌, ◌^◌, ◌/◌, ◌%◌, ◌<◌, ◌≤◌}
+use mathlib.Core.Path.{◌≡◌, refl, ap, sym, ◌∙◌}
+use mathlib.Core.List.{List, ◌∷◌}
 use native.Mathlib.Omega.{arith}
+use native.Mathlib.Nat.{pow-suc, div-div-eq-div-mul}
 use native.Mathlib.Numerals.{add-one}
 use lib.ListN.{length, get_or}
 use lib.Seq.{drop-cons}
-use Rattle.record.specs.Number.{le, number}
+use Rattle.std.specs.Int.{byte_at, bytes_low_first}
+use Rattle.record.specs.Number.{le, number, bytes}
 
 -- one byte more: the lowest byte, and what follows it
 pub number_next : (k : ℕ) (s : List ℕ) (at next : ℕ) → at < length s → next ≡ at + 1 → number (suc k) s at ≡ get_or s at 0 + 256 * number k s next
@@ -28,3 +30,16 @@ module _ (s : List ℕ) (at k : ℕ) (h : at + 4 ≤ length s) where
         number_next (suc k) s (at + 2) (at + 3) (omega arith) (omega arith),
         number_next k s (at + 3) (at + 4) (omega arith) (omega arith),
       )
+
+-- the bytes that the library makes of a number, from the i-th on
+low_first : (i k x : ℕ) → bytes_low_first i k x ≡ bytes k (x / 256 ^ i)
+unfolding bytes
+low_first i zero x = refl
+low_first i (suc k) x = rw (lowest i, low_first (suc i) k x, pow-suc) (ap (λ (y : ℕ). x / 256 ^ i % 256 ∷ bytes k y) (sym (div-div-eq-div-mul x (256 ^ i) 256)))
+  where
+    lowest : (i : ℕ) → byte_at i x ≡ x / 256 ^ i % 256
+    lowest zero = omega arith
+    lowest (suc i) = refl
+
+pub library_bytes : (k x : ℕ) → bytes_low_first 0 k x ≡ bytes k x
+library_bytes k x = let e : x / 1 ≡ x = omega arith in low_first 0 k x ∙ ap (bytes k) e

@@ -1,26 +1,20 @@
 -- Laws of loops that write numbers of any width, and of the writing of a record. Assumes nothing.
-use Prim.Native.Nat.{ℕ, suc, ◌+◌, ◌*◌, ◌/◌, ◌%◌, ◌<◌, ◌≤◌}
+use Prim.Native.Nat.{ℕ, suc, ◌+◌, ◌*◌, ◌<◌, ◌≤◌}
 use mathlib.Core.Path.{◌≡◌, refl, sym, ◌∙◌, ap}
 use mathlib.Core.List.{List, [], ◌∷◌, ◌++◌, append_assoc}
 use native.Mathlib.Omega.{arith}
 use native.Mathlib.Nat.{add-zero, add-suc, suc-add, mul-suc}
 use native.Mathlib.Numerals.{add-one}
 use lib.ListN.{length, drop, get_or, set, drop_of_length-le}
-use lib.Seq.{sets, sets-eq, length-sets, drop-cons}
+use borrow.Rule.Slice.PartMut.{put_mid}
+use lib.Seq.{sets, sets-eq, length-sets, drop-cons, drop-drop}
+use Rattle.std.specs.Int.{bytes_low_first}
 use Rattle.record.specs.Lists.{over, flat}
 use Rattle.record.specs.Node.{fields, size, node_bytes}
 use Rattle.record.specs.Number.{bytes}
 use Rattle.record.specs.declared.Node.{Node}
+use Rattle.record.proofs.Numbers.{library_bytes}
 use Rattle.record.proofs.Lengths.{length_bytes, length_words, Full, length_node_bytes}
-
--- k bytes are one byte and m more
-pub bytes_step : (s : List ℕ) (i k m x : ℕ) → k ≡ suc m → sets s i (bytes k x) ≡ sets (set s i (x % 256)) (i + 1) (bytes m (x / 256))
-unfolding bytes
-bytes_step s i k m x e = rw (e, add-one)
-
-pub bytes_end : (s : List ℕ) (i k x : ℕ) → k ≡ 0 → sets s i (bytes k x) ≡ s
-unfolding bytes
-bytes_end s i k x e = rw e
 
 -- stores that go on where others end
 pub sets_append : (a b l : List ℕ) (i j : ℕ) → j ≡ i + length a → sets (sets l i a) j b ≡ sets l i (a ++ b)
@@ -30,6 +24,13 @@ sets_append (x ∷ a) b l i j e = sets_append a b (set l i x) (suc i) j (e ∙ a
 pub sets_over : (s new : List ℕ) (at : ℕ) → at + length new ≤ length s → sets s at new ≡ over s at new
 unfolding over
 sets_over s new at h = rw (sets-eq new s at h, append_assoc)
+
+-- the k bytes that the library makes of a number, copied into as many places
+pub copied : (k n x : ℕ) (s b : List ℕ) (at : ℕ) → n ≡ k → b ≡ bytes_low_first 0 k x → at + k ≤ length s → put_mid at n s b ≡ sets s at (bytes k x)
+copied k n x s b at e p h =
+    let q : b ≡ bytes k x = p ∙ library_bytes k x in
+    let l = length_bytes k x in
+    rw (q, e, sets-eq (bytes k x) s at (omega arith), append_assoc, drop-drop, l)
 
 -- the first i of the numbers d, of k bytes each, are written into s₀ from place at on: what is still to be written makes the whole
 pub record Putting (k : ℕ) (d s₀ : List ℕ) (at : ℕ) (s : List ℕ) (i : ℕ) : Type 0 where

@@ -20,15 +20,15 @@ module _ (k n : ℕ) (s : List ℕ) (at : ℕ) (d : List ℕ) where
   reading_start h = record { within = omega arith; room = h; read = let e : n - 0 ≡ n = omega arith in let p : at + k * 0 ≡ at = omega arith in rw (e, p) }
 
   module _ (i : ℕ) (r : Reading k n s at d i) where
-    pub reading_step : i < n → Reading k n s at (set d i (number k s (at + k * i))) (i + 1)
+    pub reading_step : (x p : ℕ) → i < n → p ≡ at + k * i → x ≡ number k s p → Reading k n s at (set d i x) (i + 1)
     unfolding numbers
-    reading_step h =
+    reading_step x j h f q =
         let e : n - i ≡ suc (n - (i + 1)) = omega arith in
         let p : at + k * (i + 1) ≡ at + k * i + k = rw (add-one, mul-suc) (omega arith) in
         record {
           within = omega arith;
           room = simp length-set r.room;
-          read = rw (r.read, e, p, add-one, take-suc-set d i (number k s (at + k * i)) (omega arith), append_snoc);
+          read = rw (r.read, e, p, q, f, add-one, take-suc-set d i (number k s (at + k * i)) (omega arith), append_snoc);
         }
 
     pub reading_end : n ≤ i → d ≡ numbers k n s at

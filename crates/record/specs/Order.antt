@@ -1,31 +1,31 @@
 -- Document 01, 'Records': a digest is compared as one thing.
 -- Assumes nothing: these are definitions.
 use Rattle.std.specs.Prelude.{ℕ, Bool, true, false, List, [], ◌∷◌, ltb}
-use Rattle.record.specs.declared.Order.{Order}
-use Rattle.record.specs.declared.Order.TheVariants.{Less, Equal, Greater}
+use Rattle.std.specs.declared.cmp.Ordering.{Ordering}
+use Rattle.std.specs.declared.cmp.Ordering.TheVariants.{Less, Equal, Greater}
 
 -- the words of a digest in the order in which they decide: the first, then the second, third, fourth
 unfoldable pub deciding : List ℕ → List ℕ
 deciding d = d
 
 -- by the test: below, above, or as the rest says
-unfoldable pub decided : Bool → Bool → Order → Order
+unfoldable pub decided : Bool → Bool → Ordering → Ordering
 decided true above rest = Less
 decided false true rest = Greater
 decided false false rest = rest
 
 -- two lists of numbers, of which the first difference decides; a list goes before what continues it
-unfoldable pub lex : List ℕ → List ℕ → Order
+unfoldable pub lex : List ℕ → List ℕ → Ordering
 lex [] [] = Equal
 lex [] (y ∷ ys) = Less
 lex (x ∷ xs) [] = Greater
 lex (x ∷ xs) (y ∷ ys) = decided (ltb x y) (ltb y x) (lex xs ys)
 
 -- how one digest stands to another
-unfoldable pub compared : List ℕ → List ℕ → Order
+unfoldable pub compared : List ℕ → List ℕ → Ordering
 compared a b = lex (deciding a) (deciding b)
 
-unfoldable pub is_less : Order → Bool
+unfoldable pub is_less : Ordering → Bool
 is_less Less = true
 is_less Equal = false
 is_less Greater = false

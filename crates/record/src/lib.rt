@@ -1,12 +1,14 @@
 // Records of fixed size in a slice of bytes, and the order of digests.
 #![tactic(auto)]
 
-ghost use Rattle.std.specs.Prelude.{◌≡◌, ◌+◌, ◌*◌, ◌<◌, ◌≤◌, eqb, length, get_or, drop};
+ghost use Rattle.std.specs.Prelude.{◌≡◌, ◌+◌, ◌*◌, ◌<◌, ◌≤◌, ℕ, eqb, length, map, drop};
 ghost use Rattle.std.proofs.lemmas.List.Edits.{sets};
 ghost use Rattle.record.specs.Lists.{all, over, flat};
 ghost use Rattle.record.specs.Number.{number, numbers, bytes};
-ghost use Rattle.record.specs.Order.{deciding, compared};
+ghost use Rattle.record.specs.Order.{compared};
 ghost use Rattle.record.specs.Node.{fields, words, size, row_size, node_at, row_at, node_bytes, class_of, bad as is_bad};
+
+use std::cmp::Ordering;
 
 // How many child fields and digest words a node record has.
 pub const FIELDS: usize = 2;
@@ -31,7 +33,7 @@ pub enum Class {
 }
 
 // A node: kind 0 is external, 1 a block, 2 to 255 internal.
-#[derive(Clone, Copy)]
+#[derive(Clone, Copy, PartialEq, Eq)]
 pub struct Node {
     pub kind: u32,
     pub count: u32,
@@ -40,24 +42,10 @@ pub struct Node {
 }
 
 // A table row: how many nodes and roots a forest has.
-#[derive(Clone, Copy)]
+#[derive(Clone, Copy, PartialEq, Eq)]
 pub struct Row {
     pub nodes: u32,
     pub roots: u32,
-}
-
-#[derive(Clone, Copy)]
-pub enum Order {
-    Less,
-    Equal,
-    Greater,
-}
-
-// A byte as a wider number, and that it is below 256.
-fn wide(b: u8) -> u32
-    ensures { (result ≡ b) × (result < 256) }
-{
-    b as u32
 }
 
 // The number in the four bytes from `at` on, the lowest first.
@@ -65,11 +53,7 @@ pub fn u32_at(s: &[u8], at: usize) -> u32
     requires { at + 4 ≤ length s.now }
     ensures { result ≡ number 4 s.now at }
 {
-    let a = wide(s[at]);
-    let b = wide(s[at + 1]);
-    let c = wide(s[at + 2]);
-    let d = wide(s[at + 3]);
-    a + 256 * b + 65536 * c + 16777216 * d
+    u32::from_le_bytes([s[at], s[at + 1], s[at + 2], s[at + 3]])
 }
 
 // The number in the eight bytes from `at` on, the lowest first.
@@ -77,37 +61,82 @@ pub fn u64_at(s: &[u8], at: usize) -> u64
     requires { at + 8 ≤ length s.now }
     ensures { result ≡ number 8 s.now at }
 {
-    let low = u32_at(s, at) as u64;
-    let high = u32_at(s, at + 4) as u64;
-    low + 4294967296 * high
+    let low = u64::from(u32_at(s, at));
+    let high = u64::from(u32_at(s, at + 4));
+    low + (high << 32)
 }
 
-// The child fields from `at` on.
-fn kids_at(s: &[u8], at: usize) -> [u32; FIELDS]
-    requires { at + 4 * fields ≤ length s.now }
-    ensures { result ≡ numbers 4 fields s.now at }
+// A number that stands in a record as `WIDTH` bytes, the lowest first.
+trait Word: Copy + Default {
+    ghost WIDTH: { ℕ };
+
+    ghost value: { Self → ℕ };
+
+    const WIDTH: usize;
+
+    // The number from `at` on.
+    fn at(s: &[u8], at: usize) -> Self
+        requires { at + WIDTH ≤ length s.now }
+        ensures { value result ≡ number WIDTH s.now at };
+
+    // Writes the number from `at` on; all else stays.
+    fn put(self, s: &mut [u8], at: usize)
+        requires { at + WIDTH ≤ length s.old }
+        ensures { s.new ≡ sets s.old at (bytes WIDTH (value self)) };
+}
+
+impl Word for u32 {
+    ghost WIDTH = { 4 };
+
+    ghost value = { λ x. x };
+
+    const WIDTH: usize = 4;
+
+    fn at(s: &[u8], at: usize) -> u32 {
+        u32_at(s, at)
+    }
+
+    fn put(self, s: &mut [u8], at: usize) {
+        s[at..at + 4].copy_from_slice(&self.to_le_bytes());
+    }
+}
+
+impl Word for u64 {
+    ghost WIDTH = { 8 };
+
+    ghost value = { λ x. x };
+
+    const WIDTH: usize = 8;
+
+    fn at(s: &[u8], at: usize) -> u64 {
+        u64_at(s, at)
+    }
+
+    fn put(self, s: &mut [u8], at: usize) {
+        s[at..at + 8].copy_from_slice(&self.to_le_bytes());
+    }
+}
+
+// The N numbers from `at` on.
+fn words_at<T: Word, const N: usize>(s: &[u8], at: usize) -> [T; N]
+    requires { at + T.WIDTH * N ≤ length s.now }
+    ensures { map T.value result ≡ numbers T.WIDTH N s.now at }
 {
-    let mut d: [u32; FIELDS] = [0; FIELDS];
-    let mut i = 0;
-    while i < FIELDS {
-        d[i] = u32_at(s, at + 4 * i);
-        i += 1;
+    let mut d = [T::default(); N];
+    for (i, x) in d.iter_mut().enumerate() {
+        *x = T::at(s, at + T::WIDTH * i);
     }
     d
 }
 
-// The digest words from `at` on.
-fn words_at(s: &[u8], at: usize) -> [u64; WORDS]
-    requires { at + 8 * words ≤ length s.now }
-    ensures { result ≡ numbers 8 words s.now at }
+// Writes the numbers from `at` on; all else stays.
+fn put_words<T: Word, const N: usize>(s: &mut [u8], at: usize, d: [T; N])
+    requires { at + T.WIDTH * N ≤ length s.old }
+    ensures { s.new ≡ sets s.old at (flat (bytes T.WIDTH) (map T.value d)) }
 {
-    let mut d: [u64; WORDS] = [0; WORDS];
-    let mut i = 0;
-    while i < WORDS {
-        d[i] = u64_at(s, at + 8 * i);
-        i += 1;
+    for (i, x) in d.iter().enumerate() {
+        x.put(s, at + T::WIDTH * i);
     }
-    d
 }
 
 // The kind of node record `i`.
@@ -143,13 +172,11 @@ pub fn node_at(nodes: &[u8], i: usize) -> Node
     ensures { result ≡ node_at nodes.now i }
 {
     let at = SIZE * i;
-    let kids = kids_at(nodes, at + 8);
-    let digest = words_at(nodes, at + DIGEST);
     Node {
         kind: u32_at(nodes, at),
         count: u32_at(nodes, at + 4),
-        kids,
-        digest,
+        kids: words_at(nodes, at + 8),
+        digest: words_at(nodes, at + DIGEST),
     }
 }
 
@@ -165,31 +192,11 @@ pub fn row_at(table: &[u8], i: usize) -> Row
     }
 }
 
-// The word that decides `i`-th: no other place says which.
-fn word(digest: [u64; WORDS], i: usize) -> u64
-    requires { i < words }
-    ensures { result ≡ get_or (deciding digest) i 0 }
-{
-    digest[i]
-}
-
-// How one digest stands to another.
-pub fn compare(a: [u64; WORDS], b: [u64; WORDS]) -> Order
+// How one digest stands to another: the first word that differs decides.
+pub fn compare(a: [u64; WORDS], b: [u64; WORDS]) -> Ordering
     ensures { result ≡ compared a b }
 {
-    let mut i = 0;
-    while i < WORDS {
-        let x = word(a, i);
-        let y = word(b, i);
-        if x < y {
-            return Order::Less;
-        }
-        if y < x {
-            return Order::Greater;
-        }
-        i += 1;
-    }
-    Order::Equal
+    a.cmp(&b)
 }
 
 // Whether each child field from `count` on is 0: every field is looked at, so that no branch hangs on the count.
@@ -197,10 +204,8 @@ fn unused_are_zero(kids: [u32; FIELDS], count: u32) -> bool
     ensures { result ≡ all (eqb 0) (drop count kids) }
 {
     let mut zero = true;
-    let mut i = 0;
-    while i < FIELDS {
-        zero = zero & ((i < count as usize) | (kids[i] == 0));
-        i += 1;
+    for (i, kid) in kids.iter().enumerate() {
+        zero &= (i < count as usize) | (*kid == 0);
     }
     zero
 }
@@ -209,48 +214,8 @@ fn unused_are_zero(kids: [u32; FIELDS], count: u32) -> bool
 pub fn bad(n: Node) -> bool
     ensures { result ≡ is_bad n }
 {
-    let kids = n.kids;
-    let unused = unused_are_zero(kids, n.count);
+    let unused = unused_are_zero(n.kids, n.count);
     (LAST_KIND < n.kind) | (FIELDS < n.count as usize) | ((n.kind < 2) & (0 < n.count)) | !unused
-}
-
-// Writes the k low bytes of x from `at` on, the lowest first; all else stays.
-fn put_number(s: &mut [u8], at: usize, k: usize, x: u64)
-    requires { at + k ≤ length s.old }
-    ensures { s.new ≡ sets s.old at (bytes k x) }
-{
-    let end = at + k;
-    let mut rest = x;
-    let mut i = at;
-    while i < end {
-        s[i] = (rest % 256) as u8;
-        rest = rest / 256;
-        i += 1;
-    }
-}
-
-// Writes the child fields from `at` on; all else stays.
-fn put_kids(s: &mut [u8], at: usize, d: [u32; FIELDS])
-    requires { at + 4 * fields ≤ length s.old }
-    ensures { s.new ≡ sets s.old at (flat (bytes 4) d) }
-{
-    let mut i = 0;
-    while i < FIELDS {
-        put_number(s, at + 4 * i, 4, d[i] as u64);
-        i += 1;
-    }
-}
-
-// Writes the digest words from `at` on; all else stays.
-fn put_words(s: &mut [u8], at: usize, d: [u64; WORDS])
-    requires { at + 8 * words ≤ length s.old }
-    ensures { s.new ≡ sets s.old at (flat (bytes 8) d) }
-{
-    let mut i = 0;
-    while i < WORDS {
-        put_number(s, at + 8 * i, 8, d[i]);
-        i += 1;
-    }
 }
 
 // Writes the record of a node as record `i`; all else stays.
@@ -259,10 +224,8 @@ pub fn put_node(out: &mut [u8], i: usize, n: Node)
     ensures { out.new ≡ over out.old (size * i) (node_bytes n) }
 {
     let at = SIZE * i;
-    let kids = n.kids;
-    let digest = n.digest;
-    put_number(out, at, 4, n.kind as u64);
-    put_number(out, at + 4, 4, n.count as u64);
-    put_kids(out, at + 8, kids);
-    put_words(out, at + DIGEST, digest);
+    n.kind.put(out, at);
+    n.count.put(out, at + 4);
+    put_words(out, at + 8, n.kids);
+    put_words(out, at + DIGEST, n.digest);
 }

@@ -2,14 +2,16 @@
 -- Assumes nothing.
 use Prim.Native.Nat.{ℕ, ◌+◌, ◌-◌, ◌<◌, ◌≤◌}
 use mathlib.Core.Path.{◌≡◌, refl, sym, ◌∙◌, ap}
-use mathlib.Core.List.{List}
+use mathlib.Core.List.{List, append_assoc}
 use native.Mathlib.Omega.{arith}
 use native.Mathlib.Decide.{dec_lt}
 use native.Mathlib.Numerals.{add-one}
-use lib.ListN.{length, take, get_or, set, replicate, length-set, length-replicate, get_or-replicate}
-use lib.Seq.{ext_get_or, get_or-set_other, take-suc, take_all}
-use Rattle.room.specs.Sections.{span, Out, Apart, Puts}
-use Rattle.room.proofs.Spans.{span_length, span_at, span_empty, span_set}
+use lib.ListN.{length, take, get_or, set, length-set, length-take}
+use borrow.Rule.Slice.PartMut.{put_mid}
+use Rattle.std.proofs.lemmas.Slice.{between-put_mid, take-put_mid_below, drop-put_mid}
+use lib.Seq.{paste, drop-drop, get_or-take, get_or-drop, get_or-set_other, take-suc, take_all}
+use Rattle.room.specs.Sections.{span, Out, Puts}
+use Rattle.room.proofs.Spans.{span_at, span_empty, span_set}
 
 -- what stands at place p of a list, by its place in a section
 pub section_place : (w : List ℕ) (a e p : ℕ) → a ≤ p → p < e → get_or (span w a e) (p - a) 0 ≡ get_or w p 0
@@ -20,19 +22,23 @@ pub section_at : (a b : List ℕ) (at n p : ℕ) → span a at (at + n) ≡ span
 section_at a b at n p e h k =
     sym (section_place a at (at + n) p h k) ∙ (ap (λ (m : List ℕ). get_or m (p - at) 0) e ∙ section_place b at (at + n) p h k)
 
--- of two lists of one length that hold the same in a section, and elsewhere what a third does, each is the other
-pub puts_same : (l w a b : List ℕ) (to n : ℕ) → length a ≡ length b → Puts l w a to n → Puts l w b to n → a ≡ b
-puts_same l w a b to n h x y = ext_get_or 0 a b h (λ p k. go p (dec_lt p to) (dec_lt p (to + n)))
-  where
-    go : (p : ℕ) → Dec (p < to) → Dec (p < to + n) → get_or a p 0 ≡ get_or b p 0
-    go p (yes u) v = x.rest p (λ z. omega arith) ∙ sym (y.rest p (λ z. omega arith))
-    go p (no u) (no v) = x.rest p (λ z. omega arith) ∙ sym (y.rest p (λ z. omega arith))
-    go p (no u) (yes v) = section_at a b to n p (x.put ∙ sym y.put) (omega arith) v
-
--- what is written into the whole is the whole
-pub puts_whole : (l w w' : List ℕ) → length w' ≡ length w → Puts l w w' 0 (length w) → w' ≡ l
+-- the k words from `to` on are replaced by as many words
+pub puts_mid : (l w : List ℕ) (to n k : ℕ) → k ≡ n → length l ≡ n → to + n ≤ length w → Puts l w (put_mid to k w l) to n
 unfolding span
-puts_whole l w w' h x = sym (take_all (0 + length w - 0) w' (omega arith)) ∙ x.put
+puts_mid l w to n k q p h = rw q (record { put = between-put_mid to n w l (to + n) (omega arith) (omega arith); rest = λ i o. elsewhere i o (dec_lt i to) })
+  where
+    w' : List ℕ
+    w' = put_mid to n w l
+
+    elsewhere : (i : ℕ) → Out i to n → Dec (i < to) → get_or w' i 0 ≡ get_or w i 0
+    elsewhere i o (yes u) = sym (get_or-take to w' i 0 u) ∙ (ap (λ (v : List ℕ). get_or v i 0) (take-put_mid_below to n w l to (omega arith) (omega arith)) ∙ get_or-take to w i 0 u)
+    elsewhere i o (no u) =
+        let e : to + n + (i - (to + n)) ≡ i = omega arith in
+        rw (← e) (sym (get_or-drop (to + n) w' (i - (to + n)) 0) ∙ (ap (λ (v : List ℕ). get_or v (i - (to + n)) 0) (drop-put_mid to n w l (to + n) (omega arith) (omega arith) p) ∙ get_or-drop (to + n) w (i - (to + n)) 0))
+
+-- the words from `to` on are replaced by the first k of s
+pub puts_paste : (s w w' : List ℕ) (to n k : ℕ) → w' ≡ paste w to s k → k ≡ n → n ≤ length s → to + n ≤ length w → Puts (take k s) w w' to n
+puts_paste s w w' to n k e q g h = rw (e, append_assoc, ← (drop-drop k to w)) (puts_mid (take k s) w to n k q (omega (arith, length-take k s)) h)
 
 -- the first i of the n words of l are written into w₀ from `to` on
 pub record Putting (l w₀ w : List ℕ) (to n i : ℕ) : Type 0 where
@@ -64,18 +70,3 @@ module _ {l w₀ w : List ℕ} {to n i : ℕ} (r : Putting l w₀ w to n i) wher
   putting_end h =
       let z : n ≡ i = omega (arith, r.within) in
       rw z (record { put = r.put ∙ take_all i l (omega (arith, r.whole)); rest = r.rest })
-
--- zeros are written
-pub zeros_start : {w : List ℕ} {at n : ℕ} → at + n ≤ length w → Putting (replicate n 0) w w at n 0
-zeros_start {w} {at} {n} h = putting_start (length-replicate n 0) h
-
-pub zeros_step : {w₀ w : List ℕ} {at n i : ℕ} → Putting (replicate n 0) w₀ w at n i → i < n → Putting (replicate n 0) w₀ (set w (at + i) 0) at n (i + 1)
-zeros_step {w₀} {w} {at} {n} {i} r h = putting_step r 0 h (sym (get_or-replicate n i 0 0 h))
-
--- a section is written that stands apart, and so holds what it held
-pub copied_start : {w : List ℕ} (from : ℕ) {to n : ℕ} → from + n ≤ length w → to + n ≤ length w → Putting (span w from (from + n)) w w to n 0
-copied_start {w} from {to} {n} f h = putting_start (omega (arith, span_length w from (from + n) f)) h
-
-pub copied_step : {w₀ w : List ℕ} (from : ℕ) {to n i : ℕ} → Putting (span w₀ from (from + n)) w₀ w to n i → Apart from to n → i < n → Putting (span w₀ from (from + n)) w₀ (set w (to + i) (get_or w (from + i) 0)) to n (i + 1)
-copied_step {w₀} {w} from {to} {n} {i} r a h =
-    putting_step r (get_or w (from + i) 0) h (r.rest (from + i) (λ z. omega arith) ∙ sym (span_at w₀ from (from + n) i (omega arith)))

@@ -8,8 +8,7 @@ ghost use Rattle.room.specs.Sections.{span, Apart, Puts};
 pub fn clear(work: &mut [u32])
     ensures { work.new ≡ replicate (length work.old) 0 }
 {
-    let count = work.len();
-    clear_part(work, 0, count);
+    work.fill(0);
 }
 
 // Sets the `count` words from `at` on to 0; all else stays.
@@ -17,11 +16,7 @@ pub fn clear_part(work: &mut [u32], at: usize, count: usize)
     requires { at + count ≤ length work.old }
     ensures { Puts (replicate count 0) work.old work.new at count }
 {
-    let mut done = 0;
-    while done < count {
-        work[at + done] = 0;
-        done += 1;
-    }
+    work[at..at + count].fill(0);
 }
 
 // Copies the `count` words from `from` on to a section that lies apart; all else stays.
@@ -31,9 +26,5 @@ pub fn copy(work: &mut [u32], from: usize, to: usize, count: usize)
     requires apart { Apart from to count }
     ensures { Puts (span work.old from (from + count)) work.old work.new to count }
 {
-    let mut i = 0;
-    while i < count {
-        work[to + i] = work[from + i];
-        i += 1;
-    }
+    work.copy_within(from..from + count, to);
 }

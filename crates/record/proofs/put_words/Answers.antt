@@ -1,25 +1,23 @@
-use mathlib.Core.Path.{◌≡◌}
+use Prim.Native.Nat.{◌<◌}
+use mathlib.Core.Path.{◌≡◌, sym}
 use native.Mathlib.Omega.{arith}
-use borrow.Author.Rules.{rules}
-use lib.ListN.{length}
+use lib.ListN.{length, get_or}
+use Rattle.std.specs.Prelude.{map}
+use Rattle.std.proofs.lemmas.List.{length-map, get_or-map}
 use Rattle.record.proofs.Puts.{putting_start, putting_step, putting_end}
-use Rattle.record.specs.Node.{words}
 use Rattle.record.proofs.put_words.Goals as goal
-use Rattle.record.proofs.put_words.Goals.{Start}
-
-d-length : (c : Start) → length c.args.d ≡ words
-d-length c = search rules
 
 pub loop-i-init : goal.loop-i-init
-loop-i-init c = let a = c.args in putting_start 8 a.d a.s.now a.at
+loop-i-init g c = putting_start _ _ _ _
 
 pub loop-i-preserved : goal.loop-i-preserved
-loop-i-preserved c =
-    let n = d-length (goal.at.loop-i-preserved c).Start in
-    putting_step c.loop-i.invariant (omega arith) c.put_number.ensures
-
-pub shape_of-s : goal.shape_of-s
-shape_of-s c = c.loop-i.invariant.kept
+loop-i-preserved g c =
+    let l = c.loop-i in
+    let f = g.T.Word.value in
+    let d = c.args.d in
+    let h : l.i < length d = omega arith in
+    let e : f (get_or d l.i c.x-item.result) ≡ get_or (map f d) l.i 0 = sym (get_or-map f d l.i c.x-item.result 0 h) in
+    putting_step l.invariant (simp length-map h) (rw (c.WIDTH.ensures, e) at c.put.ensures)
 
 pub returns : goal.returns
-returns c = let n = d-length (goal.at.returns c).Start in putting_end c.loop-i.invariant (omega arith)
+returns g c = putting_end c.loop-i.invariant (simp length-map (omega arith))

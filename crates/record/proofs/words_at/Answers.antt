@@ -1,19 +1,18 @@
-use mathlib.Core.Path.{refl}
+use mathlib.Core.Path.{◌≡◌, ap}
+use Prim.Native.Nat.{ℕ, ◌+◌, ◌*◌}
+use Rattle.std.proofs.lemmas.List.{length-map, length-replicate, map-set}
 use Rattle.record.proofs.Readings.{reading_start, reading_step, reading_end}
-use Rattle.record.specs.Node.{words}
 use Rattle.record.proofs.words_at.Goals as goal
 
 pub loop-i-init : goal.loop-i-init
-loop-i-init c = let a = c.args in reading_start 8 words a.s.now a.at _ refl
+loop-i-init g c = reading_start _ _ _ _ _ (simp (length-map, length-replicate))
 
 pub loop-i-preserved : goal.loop-i-preserved
-loop-i-preserved c =
+loop-i-preserved g c =
     let l = c.loop-i in
-    let a = c.args in
-    rw c.u64_at.ensures (reading_step 8 words a.s.now a.at l.d l.i l.invariant c.loop-i-test.true)
+    let p : c.args.at + c.WIDTH.result * l.i ≡ c.args.at + g.T.Word.WIDTH * l.i = ap (λ (w : ℕ). c.args.at + w * l.i) c.WIDTH.ensures in
+    rw (map-set g.T.Word.value l.x-items l.i c.at.result)
+    (reading_step _ _ _ _ _ l.i l.invariant _ _ c.loop-i-test.true p c.at.ensures)
 
 pub returns : goal.returns
-returns c =
-    let l = c.loop-i in
-    let a = c.args in
-    reading_end 8 words a.s.now a.at l.d l.i l.invariant c.loop-i-test.false
+returns g c = reading_end _ _ _ _ _ c.loop-i.i c.loop-i.invariant c.loop-i-test.false

@@ -1,10 +1,6 @@
-use Prim.Native.Nat.{◌-◌}
+use Rattle.std.specs.Prelude.{map}
 use Rattle.record.proofs.Readings.{Reading}
-use Rattle.record.specs.Node.{words}
 use Rattle.record.proofs.words_at.Given as goal
 
 abbrev pub invariant-loop-i : goal.invariant-loop-i
-invariant-loop-i l = Reading 8 words l.s l.at l.d l.i
-
-abbrev pub decreases-loop-i : goal.decreases-loop-i
-decreases-loop-i l = words - l.i
+invariant-loop-i g l = Reading g.T.Word.WIDTH g.row.N l.s l.at (map g.T.Word.value l.x-items) l.i

@@ -1,15 +1,13 @@
 use native.Mathlib.Omega.{arith}
-use Rattle.room.proofs.Writes.{copied_start, copied_step, putting_end}
+use lib.ListN.{drop, length-drop}
+use Rattle.room.proofs.Writes.{puts_paste}
+use Rattle.room.specs.Sections.{span}
 use Rattle.room.proofs.copy.Goals as goal
 
-pub loop-i-init : goal.loop-i-init
-loop-i-init c = copied_start _ c.requires.count_in_bounds c.requires.count_in_bounds_2
-
-pub loop-i-preserved : goal.loop-i-preserved
-loop-i-preserved c = copied_step _ c.loop-i.invariant c.requires.apart (omega arith)
-
-pub shape_of-work : goal.shape_of-work
-shape_of-work c = c.loop-i.invariant.long
-
 pub returns : goal.returns
-returns c = putting_end c.loop-i.invariant c.loop-i-test.false
+unfolding span
+returns c =
+    let a = c.args in
+    let r = c.requires in
+    let w = a.work.now in
+    puts_paste (drop a.from w) w _ a.to a.count _ c.copy_within.ensures.after (omega arith) (omega (arith, length-drop a.from w, r.count_in_bounds)) r.count_in_bounds_2
