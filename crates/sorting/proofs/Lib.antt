@@ -6,6 +6,5 @@ pub mod Elements
 pub mod Merges
 pub mod Sorts
 pub mod Finds
-pub mod Callers
 pub mod Uses
 pub mod Keeping
