@@ -8,17 +8,18 @@ use mathlib.Core.Logic.{◌≢◌}
 use native.Mathlib.Omega.{arith}
 use native.Mathlib.Decide.{dec_lt}
 use borrow.Author.Tests.{eq-eqb, ne_eqb}
-use lib.ListN.{length, get_or, get_or-replicate}
+use lib.ListN.{length, get_or, get_or-replicate, replicate}
 use Rattle.record.specs.Lists.{run}
 use Rattle.record.specs.Node.{node_at, is_external}
 use Rattle.record.specs.declared.Node.{Node}
 use Rattle.record.proofs.Lengths.{length_run}
 use Rattle.forest.specs.Lists.{last_of, sort}
 use Rattle.room.specs.Sections.{span}
+use Rattle.room.proofs.Spans.{span_length}
 use Rattle.room.proofs.Writes.{section_place}
-use Rattle.sorting.specs.Promises.{Listed, Room, Sorts}
+use Rattle.sorting.specs.Promises.{Listed, Spared}
 use Rattle.sorting.specs.Digests.{less, holds}
-use Rattle.sorting.proofs.Callers.{shelf_sorted, last_sorted}
+use Rattle.sorting.proofs.Callers.{Both, shelf_sorted, last_sorted}
 use Rattle.sorting.proofs.Keeping.{Keeping, keeping_count, keeping_end}
 use Rattle.sorting.proofs.Uses.{kept_listed, replacement_is}
 use Rattle.dense_order.proofs.Gathering.{external_kind}
@@ -50,16 +51,16 @@ module _ {s w w' : List ℕ} {n r : ℕ} (a : Roomy s w n) (long : length w' ≡
   others_listed = kept_listed s (λ p. not (is_external (node_at s p)))
 
   -- they can be sorted
-  pub sortable : Room s w' (holders_at n) r (spare_at n)
-  sortable =
+  pub sortable : (z : List ℕ) → length z ≡ r → Spared s (span w' (holders_at n) (holders_at n + r)) z
+  sortable z k =
       let x = a.room in
       let y = l.few in
-      record { fits = omega arith; spared = omega arith; apart = omega arith; listed = rw l.puts.put others_listed }
+      record { listed = rw l.puts.put others_listed; as_long = omega (arith, span_length w' (holders_at n) (holders_at n + r) (omega arith)) }
 
   -- and then searched
-  module _ {v : List ℕ} (same : length v ≡ length w') (o : Sorts (less s) w' v (holders_at n) r (spare_at n)) where
+  module _ {v : List ℕ} (same : length v ≡ length w') (o : Both (sort (less s) (span w' (holders_at n) (holders_at n + r))) (replicate r 0) w' v (holders_at n) r (spare_at n) r) where
     sorted_is : span v (holders_at n) (holders_at n + r) ≡ sort (less s) (others s)
-    sorted_is = o.sorted ∙ ap (sort (less s)) l.puts.put
+    sorted_is = o.first ∙ ap (sort (less s)) l.puts.put
 
     pub shelved : Shelved s w v n r
     unfolding others
@@ -68,7 +69,7 @@ module _ {s w w' : List ℕ} {n r : ℕ} (a : Roomy s w n) (long : length w' ≡
         let y = l.few in
         record {
           held = record {
-            shelf = shelf_sorted s v (others s) (holders_at n) r (omega arith) others_listed sorted_is;
+            shelf = rw sorted_is (shelf_sorted s (others s) others_listed);
             last = λ d. ap (last_of (holds s d)) sorted_is ∙ (last_sorted s d (others s) ∙ sym (replacement_is s d));
           };
           before = λ k h. o.rest k (λ z. omega arith) (λ z. omega arith) ∙ l.puts.rest k (λ z. omega arith);
@@ -76,5 +77,5 @@ module _ {s w w' : List ℕ} {n r : ℕ} (a : Roomy s w n) (long : length w' ≡
         }
       where
         zero : ((k : ℕ) → spare_at n ≤ k → get_or w k 0 ≡ 0) → (k : ℕ) → spare_at n ≤ k → Dec (k < spare_at n + r) → get_or v k 0 ≡ 0
-        zero z k h (yes u) = sym (section_place v (spare_at n) (spare_at n + r) k h u) ∙ (ap (λ (m : List ℕ). get_or m (k - spare_at n) 0) o.spared_zero ∙ get_or-replicate r (k - spare_at n) 0 0 (omega arith))
+        zero z k h (yes u) = sym (section_place v (spare_at n) (spare_at n + r) k h u) ∙ (ap (λ (m : List ℕ). get_or m (k - spare_at n) 0) o.second ∙ get_or-replicate r (k - spare_at n) 0 0 (omega arith))
         zero z k h (no u) = let y = l.few in o.rest k (λ i. omega arith) (λ i. omega arith) ∙ (l.puts.rest k (λ i. omega arith) ∙ z k h)

@@ -35,7 +35,9 @@ pub(crate) fn sort_holders(nodes: &[u8], work: &mut [u32], n: usize) -> usize
     ensures { Shelved nodes.now work.old work.new n result }
 {
     let count = list_holders(nodes, work, n);
-    sorting::sort_by_digest(nodes, work, HOLDERS * n, count, SPARE * n);
+    let (front, spare) = work.split_at_mut(SPARE * n);
+    let holders = HOLDERS * n;
+    sorting::sort_by_digest(nodes, &mut front[holders..holders + count], &mut spare[..count]);
     count
 }
 
@@ -50,7 +52,8 @@ fn replacement(
     requires { Held nodes.now work.now n holders }
     ensures { result ≡ replacement_of (nodes_of nodes.now) digest }
 {
-    sorting::find(nodes, work, HOLDERS * n, holders, digest)
+    let from = HOLDERS * n;
+    sorting::find(nodes, &work[from..from + holders], digest)
 }
 
 // Step 2: takes position p. A finished node is passed over, an open one is met again, any other is opened.

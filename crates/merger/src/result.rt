@@ -47,7 +47,9 @@ fn arrange(nodes: &[u8], work: &mut [u32], n: usize, m: usize)
     ensures { Arranged nodes.now work.old work.new n m }
 {
     let externals = list_class(nodes, work, n, m, ORDER * n, EXTERNAL);
-    sorting::sort_by_digest(nodes, work, ORDER * n, externals, SPARE * n);
+    let (front, order) = work.split_at_mut(ORDER * n);
+    let spare = SPARE * n;
+    sorting::sort_by_digest(nodes, &mut order[..externals], &mut front[spare..spare + externals]);
     let blocks = list_class(nodes, work, n, m, ORDER * n + externals, BLOCK);
     list_class(nodes, work, n, m, ORDER * n + externals + blocks, INTERNAL);
 }

@@ -8,3 +8,4 @@ pub mod Sorts
 pub mod Finds
 pub mod Uses
 pub mod Keeping
+pub mod Callers
