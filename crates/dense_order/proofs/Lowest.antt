@@ -1,12 +1,14 @@
 -- Laws of a loop that seeks the lowest bad record.
 -- Assumes nothing.
 use Prim.Native.Nat.{ℕ, suc, ◌+◌, ◌/◌, ◌<◌, ◌≤◌}
-use mathlib.Core.Path.{◌≡◌, refl}
-use mathlib.Core.Bool.{true, false}
-use mathlib.Core.List.{List}
+use mathlib.Core.Path.{◌≡◌, refl, sym, ◌∙◌}
+use mathlib.Core.Bool.{Bool, true, false, cond}
+use mathlib.Core.List.{List, [], ◌∷◌, map}
 use Rattle.std.specs.Prelude.{Option, Some, None}
 use native.Mathlib.Omega.{arith}
 use lib.ListN.{length}
+use Rattle.std.specs.List.{position, position_from}
+use Rattle.std.proofs.lemmas.Iterator.Adapters.{position_from-zero}
 use Rattle.record.specs.Node.{size, node_at, nodes_of, bad}
 use Rattle.forest.specs.Lists.{here_or, lowest}
 use Rattle.dense_order.proofs.Rest.{nodes_from, rest_all, rest_step, rest_end}
@@ -50,3 +52,25 @@ module _ (s : List ℕ) where
     pub seeking_end : length s / size ≤ i → None ≡ (lowest bad (nodes_of s))
     unfolding lowest further
     seeking_end h = rw (k, rest_end s i h)
+
+-- THE LIBRARY'S SEARCH ----------------------------------------------------------------------------
+
+module _ {A : Type 0} (t : A → Bool) where
+  further_position : (i : ℕ) (xs : List A) → position_from t i xs ≡ further i (lowest t xs)
+  unfolding lowest further
+  further_position i [] = refl
+  further_position i (x ∷ xs) = go (t x) (further_position (i + 1) xs)
+    where
+      go : (b : Bool) → position_from t (i + 1) xs ≡ further (i + 1) (lowest t xs) → cond b (Some i) (position_from t (i + 1) xs) ≡ further i (here_or b (lowest t xs))
+      go true e = sym (further_here i (lowest t xs))
+      go false e = e ∙ sym (further_there i (lowest t xs))
+
+  -- what `position` answers
+  pub position_lowest : (xs : List A) → position t xs ≡ lowest t xs
+  position_lowest xs = position_from-zero t xs ∙ further_position 0 xs ∙ sym (further_zero (lowest t xs))
+
+-- a test of what is made of each element
+pub lowest_map : {A B : Type 0} (t : B → Bool) (f : A → B) (xs : List A) → lowest (λ x. t (f x)) xs ≡ lowest t (map f xs)
+unfolding lowest
+lowest_map t f [] = refl
+lowest_map t f (x ∷ xs) = rw (lowest_map t f xs)

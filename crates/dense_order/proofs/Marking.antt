@@ -1,7 +1,7 @@
 -- Laws of marks: what one more id in the order changes, the loop that marks the places, and the search for an id without one.
 -- Assumes nothing.
-use Prim.Native.Nat.{ℕ, suc, ◌+◌, ◌<◌, ◌≤◌}
-use mathlib.Core.Path.{◌≡◌, refl, sym, ◌∙◌, ap}
+use Prim.Native.Nat.{ℕ, zero, suc, ◌+◌, ◌-◌, ◌*◌, ◌<◌, ◌≤◌}
+use mathlib.Core.Path.{◌≡◌, refl, sym, ◌∙◌, ap, subst}
 use mathlib.Core.Bool.{Bool, true, false}
 use mathlib.Core.List.{List, [], ◌∷◌, ◌++◌, Memᴰ}
 use mathlib.Core.Logic.{◌≢◌}
@@ -11,8 +11,8 @@ use native.Mathlib.Omega.{arith}
 use native.Mathlib.Numerals.{add-one}
 use lib.Dec.{eqb}
 use borrow.Author.Tests.{eq-eqb, ne_eqb}
-use lib.ListN.{length, get_or, set, length-set}
-use lib.Seq.{get_or-set_same, get_or-set_other}
+use lib.ListN.{length, take, drop, get_or, set, length-set}
+use lib.Seq.{drop-cons, get_or-set_same, get_or-set_other}
 use Rattle.record.specs.Lists.{run}
 use Rattle.forest.specs.Lists.{here_or, lowest}
 use Rattle.claims.specs.Distinct.{Distinct, fresh}
@@ -126,23 +126,18 @@ marking_end {w₀} {w} {n} {filled} {k} m h = let a = m.within in let e : k ≡ 
 
 -- THE SEARCH --------------------------------------------------------------------------------------
 
--- the test fails at each of the first k numbers
-pub record Failing (t : ℕ → Bool) (n k : ℕ) : Type 0 where
-  pub within : k ≤ n
-  pub fails : (x : ℕ) → x < k → t x ≡ false
+module _ (t : ℕ → Bool) (w : List ℕ) (a : ℕ) where
+  -- what is found among the n words from a + b on
+  words_lowest : (b n : ℕ) → a + b + n ≤ length w → lowest t (take n (drop (a + b) w)) ≡ lowest (λ p. t (get_or w (a + p) 0)) (run b n)
+  unfolding lowest run
+  words_lowest b zero h = refl
+  words_lowest b (suc n) h =
+      let e : suc (a + b) ≡ a + suc b = omega arith in
+      rw (drop-cons w (a + b) 0 (omega arith), e, words_lowest (suc b) n (omega arith))
 
-module _ {t : ℕ → Bool} {n : ℕ} where
-  pub failing_start : Failing t n 0
-  failing_start = record { within = omega arith; fails = λ x h. absurd (omega arith) }
-
-  pub failing_step : {k : ℕ} → Failing t n k → k < n → t k ≡ false → Failing t n (k + 1)
-  failing_step {k} r h e = record {
-    within = omega arith;
-    fails = λ x b. elim (ℕ_discrete x k) [ yes q ↦ rw q e | no q ↦ r.fails x (omega arith) ];
-  }
-
-  pub failing_found : {k : ℕ} → Failing t n k → k < n → t k ≡ true → lowest t (run 0 n) ≡ Some k
-  failing_found {k} r h e = let z : 0 + k ≡ k = omega arith in lowest_at t 0 n k (λ x b. r.fails x (omega arith)) (rw z e) h
-
-  pub failing_end : {k : ℕ} → Failing t n k → n ≤ k → lowest t (run 0 n) ≡ None
-  failing_end {k} r h = none_lowest t (run 0 n) (λ x m. let (a, b) = run_in 0 n x m in r.fails x (omega arith))
+-- what is found among the marks
+pub marks_lowest : (t : ℕ → Bool) (w : List ℕ) (n : ℕ) → 2 * n ≤ length w → lowest t (take (2 * n - n) (drop n w)) ≡ lowest (λ p. t (get_or w (n + p) 0)) (run 0 n)
+marks_lowest t w n h =
+    let d : 2 * n - n ≡ n = omega arith in
+    let e : n ≡ n + 0 = omega arith in
+    rw d (subst (λ (k : ℕ). lowest t (take n (drop k w)) ≡ lowest (λ p. t (get_or w (n + p) 0)) (run 0 n)) (sym e) (words_lowest t w n 0 n (omega arith)))

@@ -37,12 +37,10 @@ pub fn first_bad(nodes: &[u8]) -> Option<usize>
     ensures { result ≡ lowest bad (nodes_of nodes.now) }
 {
     let n = nodes.len() / record::SIZE;
-    let mut i = 0;
-    while i < n {
+    for i in 0..n {
         if record::bad(record::node_at(nodes, i)) {
             return Some(i);
         }
-        i += 1;
     }
     None
 }
@@ -52,14 +50,11 @@ pub fn last_from(n: Node, low: usize) -> Option<u32>
     ensures { result ≡ last_of (leb low) (children n) }
 {
     let kids = n.kids;
-    let mut left = record::FIELDS;
-    while 0 < left {
-        let i = left - 1;
+    for i in (0..record::FIELDS).rev() {
         let kid = kids[i];
         if (i < n.count as usize) & (low <= kid as usize) {
             return Some(kid);
         }
-        left -= 1;
     }
     None
 }
@@ -150,15 +145,13 @@ fn validate_records(nodes: &[u8]) -> Result<(), Reply>
     if record::bad(record::node_at(nodes, 0)) {
         return Err(Reply::BadRecord(0));
     }
-    let mut i = 1;
-    while i < n {
+    for i in 1..n {
         if record::bad(record::node_at(nodes, i)) {
             return Err(Reply::BadRecord(i as u64));
         }
         if let Err(reply) = fault(nodes, i) {
             return bad_first(nodes, reply);
         }
-        i += 1;
     }
     Ok(())
 }

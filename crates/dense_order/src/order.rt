@@ -27,15 +27,12 @@ fn list_kind(nodes: &[u8], work: &mut [u32], n: usize, to: usize, kind: u32) -> 
     ensures { Kinds nodes.now work.old work.new to kind result }
 {
     let mut count = 0;
-    let mut p = 0;
-    while p < n {
+    for p in 0..n {
         if record::kind_at(nodes, p) != kind {
-            p += 1;
             continue;
         }
         work[to + count] = p as u32;
         count += 1;
-        p += 1;
     }
     count
 }
@@ -85,10 +82,8 @@ fn settle_all(nodes: &[u8], work: &mut [u32], n: usize, filled: usize)
     requires { Standing nodes.now work.old n filled 0 }
     ensures { Settles nodes.now work.old work.new n filled filled }
 {
-    let mut t = 0;
-    while t < filled {
+    for t in 0..filled {
         settle(nodes, work, n, filled, t);
-        t += 1;
     }
 }
 
@@ -109,16 +104,13 @@ fn release(nodes: &[u8], work: &mut [u32], n: usize, begun: usize) -> usize
     requires { Begun nodes.now work.old n begun }
     ensures { Released nodes.now work.new n result }
 {
-    let mut filled = begun;
-    while filled < n {
-        let found = ready::lowest(work, READY * n, n);
-        let Some(p) = found else {
+    for filled in begun..n {
+        let Some(p) = ready::lowest(work, READY * n, n) else {
             return filled;
         };
         append(nodes, work, n, filled, p);
-        filled += 1;
     }
-    filled
+    n
 }
 
 // Links the mentions that p makes, each to the one before it that names the same child; says how many they are.
@@ -130,13 +122,11 @@ fn link_kids(nodes: &[u8], work: &mut [u32], n: usize, p: usize) -> u32
     let node = record::node_at(nodes, p);
     let kids = node.kids;
     let count = node.count as usize;
-    let mut j = 0;
-    while j < count {
+    for j in 0..count {
         let mention = FIELDS * p + j;
         let head = HEADS * n + kids[j] as usize;
         work[LINKS * n + mention] = work[head];
         work[head] = (mention + 1) as u32;
-        j += 1;
     }
     node.count
 }
@@ -161,10 +151,8 @@ fn enlist_all(nodes: &[u8], work: &mut [u32], n: usize, filled: usize)
     requires { Fresh nodes.now work.old n filled }
     ensures { Opened nodes.now work.new n filled }
 {
-    let mut p = 0;
-    while p < n {
+    for p in 0..n {
         enlist(nodes, work, n, p);
-        p += 1;
     }
 }
 
@@ -197,11 +185,9 @@ pub(crate) fn keep_order(work: &mut [u32], n: usize)
     requires { (2 * n ≤ length work.old) × (n ≤ most) }
     ensures { Kept work.old work.new n n }
 {
-    let mut p = 0;
-    while p < n {
+    for p in 0..n {
         work[p] = p as u32;
         work[n + p] = (p + 1) as u32;
-        p += 1;
     }
 }
 

@@ -6,6 +6,3 @@ use Rattle.dense_order.proofs.deliver.renumbered.Given as goal
 
 abbrev pub invariant-loop-i : goal.invariant-loop-i
 invariant-loop-i l = Renumbering (new_id l.work l.n) l.node l.kids l.i
-
-abbrev pub decreases-loop-i : goal.decreases-loop-i
-decreases-loop-i l = fields - l.i

@@ -11,12 +11,6 @@ loop-p-init c = keeping_start _ _ _ _
 pub kind_at-requires : goal.kind_at-requires
 kind_at-requires c = let z = c.requires.counted in omega arith
 
-pub overflow_add-p : goal.overflow_add-p
-overflow_add-p c =
-    let a = c.requires in
-    let m = c.loop-p.invariant in
-    omega (arith, a.few, a.fits, m.some, m.within, m.long)
-
 pub loop-p-preserved-then-kind_at-kind : goal.loop-p-preserved-then-kind_at-kind
 loop-p-preserved-then-kind_at-kind c = numbers_past c.loop-p.invariant c.loop-p-test.true (ne_eqb _ _ (λ e. c.if-kind_at-kind.true (c.kind_at.ensures ∙ e)))
 
@@ -46,12 +40,6 @@ bounds-work-to c =
 
 pub overflow_add-count : goal.overflow_add-count
 overflow_add-count c =
-    let a = c.requires in
-    let m = c.loop-p.invariant in
-    omega (arith, a.few, a.fits, m.some, m.within, m.long)
-
-pub overflow_add-p-in-loop-p : goal.overflow_add-p-in-loop-p
-overflow_add-p-in-loop-p c =
     let a = c.requires in
     let m = c.loop-p.invariant in
     omega (arith, a.few, a.fits, m.some, m.within, m.long)

@@ -7,6 +7,3 @@ use Rattle.dense_order.proofs.order.list_kind.Given as goal
 
 abbrev pub invariant-loop-p : goal.invariant-loop-p
 invariant-loop-p l = Keeping (λ q. eqb (node_at l.nodes q).kind l.kind) (run 0 l.n) l.initial.work l.work l.to l.count l.p
-
-abbrev pub decreases-loop-p : goal.decreases-loop-p
-decreases-loop-p l = l.n - l.p
