@@ -5,7 +5,7 @@ use mathlib.Core.Path.{◌≡◌, refl, sym, ◌∙◌, ap, subst}
 use mathlib.Core.Bool.{Bool, true, false}
 use mathlib.Core.List.{List, [], ◌∷◌, ◌++◌, Memᴰ}
 use mathlib.Core.Logic.{◌≢◌}
-use Rattle.std.specs.Prelude.{Some, None}
+use Rattle.std.specs.Prelude.{Some}
 use native.Mathlib.Decide.{ℕ_discrete}
 use native.Mathlib.Omega.{arith}
 use native.Mathlib.Numerals.{add-one}
@@ -16,8 +16,7 @@ use lib.Seq.{drop-cons, get_or-set_same, get_or-set_other}
 use Rattle.record.specs.Lists.{run}
 use Rattle.forest.specs.Lists.{here_or, lowest}
 use Rattle.claims.specs.Distinct.{Distinct, fresh}
-use Rattle.claims.specs.Searches.{none_lowest, lowest_at, get_d_mem}
-use Rattle.claims.specs.Sorts.{run_in}
+use Rattle.claims.specs.Searches.{get_d_mem}
 use Rattle.room.specs.Sections.{span}
 use Rattle.room.proofs.Spans.{span_length, span_at, span_empty, span_next, span_join, span_last}
 use Rattle.dense_order.specs.Marks.{mark_of, Unmarked, Marked}

@@ -3,7 +3,7 @@
 
 ghost use Rattle.std.specs.Prelude.{◌≡◌, not, ◌||◌, [], ◌∷◌, ◌+◌, ◌-◌, ◌*◌, ◌≤◌, leb, eqb, length, None, Some};
 ghost use Rattle.record.specs.Order.{before};
-ghost use Rattle.record.specs.Node.{size, node_at, nodes_of, bad, children};
+ghost use Rattle.record.specs.Node.{size, rank, node_at, nodes_of, bad, children};
 ghost use Rattle.forest.specs.Lists.{lowest, last_of};
 ghost use Rattle.forest.specs.Lent.{first};
 ghost use Rattle.forest.specs.Validate.{bad_record, forward as forward_of, fault as fault_of, node_faults, validate as validated};
@@ -13,7 +13,7 @@ ghost use Rattle.dense_order.specs.Kinds.{Blank};
 ghost use Rattle.dense_order.specs.Steps.{size_checks, forest_checks, Fitting, Answers};
 
 use forest::Reply;
-use record::{Node, Order};
+use record::{Class, Node, Order};
 
 mod deliver;
 mod order;
@@ -24,13 +24,6 @@ pub const MOST: usize = 1073741823;
 
 // The words of work room that a node wants.
 pub const WORK_WORDS: usize = 16;
-
-// The kinds of externals and blocks, and the lowest of internals; so also their classes, in order.
-const EXTERNAL: u32 = 0;
-
-const BLOCK: u32 = 1;
-
-const INTERNAL: u32 = 2;
 
 // The lowest bad record of the whole ones: a part of a record at the end does not matter.
 pub fn first_bad(nodes: &[u8]) -> Option<usize>
@@ -59,12 +52,12 @@ pub fn last_from(n: Node, low: usize) -> Option<u32>
     None
 }
 
-// Whether record `i` is no external, or has a digest above that of the record before it.
-fn digest_rises(nodes: &[u8], i: usize, kind: u32) -> bool
+// Whether record `i`, of class `class`, is no external, or has a digest above that of the record before it.
+fn digest_rises(nodes: &[u8], i: usize, class: Class) -> bool
     requires { (1 ≤ i) × (size * i + size ≤ length nodes.now) }
-    ensures { result ≡ not (eqb kind 0) || before (node_at nodes.now (i - 1)).digest (node_at nodes.now i).digest }
+    ensures { result ≡ not (eqb (rank class) (rank Class.External)) || before (node_at nodes.now (i - 1)).digest (node_at nodes.now i).digest }
 {
-    if kind != EXTERNAL {
+    if class != Class::External {
         return true;
     }
     let previous_digest = record::digest_at(nodes, i - 1);
@@ -94,13 +87,12 @@ fn fault(nodes: &[u8], i: usize) -> Result<(), Reply>
     requires { (1 ≤ i) × (size * i + size ≤ length nodes.now) }
     ensures { result ≡ check_of (fault_of i (node_at nodes.now (i - 1)) (node_at nodes.now i)) }
 {
-    let previous_kind = record::kind_at(nodes, i - 1);
-    let kind = record::kind_at(nodes, i);
-    // The kinds tell how the classes stand, but for two internals.
-    if (kind < INTERNAL) & (kind < previous_kind) {
+    let previous = record::class_of(record::kind_at(nodes, i - 1));
+    let class = record::class_of(record::kind_at(nodes, i));
+    if class < previous {
         return Err(Reply::ClassOrder(i as u64));
     }
-    if !digest_rises(nodes, i, kind) {
+    if !digest_rises(nodes, i, class) {
         return Err(Reply::DigestOrder(i as u64));
     }
     forward(nodes, i)

@@ -5,11 +5,11 @@ ghost use Rattle.forest.specs.Order.{ready};
 ghost use Rattle.forest.specs.Lent.{work_words, most};
 ghost use Rattle.room.specs.Sections.{span};
 ghost use Rattle.ready.specs.Tree.{Tree};
-ghost use Rattle.dense_order.specs.Kinds.{Space, Kinds, Blank, Externals, Kept, Ordered};
+ghost use Rattle.dense_order.specs.Kinds.{Space, Members, Blank, Externals, Kept, Ordered};
 ghost use Rattle.dense_order.specs.State.{Fair, counts_at, ready_at, Standing, Resolved, Settles, Appends, Begun, Released, Enlisted, Links, Enlists, Fresh, Opened};
 
-use crate::{BLOCK, EXTERNAL, INTERNAL, deliver};
-use record::FIELDS;
+use crate::deliver;
+use record::{Class, FIELDS};
 
 // The sections of the work room, of n words each: the order from 0 on, the marks from n on, then these. The tree has two, the links one a
 // child field.
@@ -21,14 +21,14 @@ const READY: usize = 4;
 
 const LINKS: usize = 6;
 
-// Lists the ids of one kind from place `to` on; says how many they are.
-fn list_kind(nodes: &[u8], work: &mut [u32], n: usize, to: usize, kind: u32) -> usize
+// Lists the ids of one class from place `to` on; says how many they are.
+fn list_class(nodes: &[u8], work: &mut [u32], n: usize, to: usize, class: Class) -> usize
     requires { Space nodes.now work.old n to }
-    ensures { Kinds nodes.now work.old work.new to kind result }
+    ensures { Members nodes.now work.old work.new to class result }
 {
     let mut count = 0;
     for p in 0..n {
-        if record::kind_at(nodes, p) != kind {
+        if record::class_of(record::kind_at(nodes, p)) != class {
             continue;
         }
         work[to + count] = p as u32;
@@ -42,7 +42,7 @@ pub(crate) fn list_externals(nodes: &[u8], work: &mut [u32], n: usize) -> usize
     requires { Blank nodes.now work.old n }
     ensures { Externals nodes.now work.new n result }
 {
-    let count = list_kind(nodes, work, n, 0, EXTERNAL);
+    let count = list_class(nodes, work, n, 0, Class::External);
     sorting::sort_by_digest(nodes, work, 0, count, HEADS * n);
     count
 }
@@ -138,9 +138,9 @@ fn enlist(nodes: &[u8], work: &mut [u32], n: usize, p: usize)
     ensures { Enlists nodes.now work.old work.new n p }
 {
     let count = link_kids(nodes, work, n, p);
-    let kind = record::kind_at(nodes, p);
+    let class = record::class_of(record::kind_at(nodes, p));
     work[COUNTS * n + p] = count;
-    if (kind < INTERNAL) | (0 < count) {
+    if (class != Class::Internal) | (0 < count) {
         return;
     }
     ready::put(work, READY * n, n, p);
@@ -163,7 +163,7 @@ fn begin(nodes: &[u8], work: &mut [u32], n: usize, externals: usize) -> usize
     requires externals { Externals nodes.now work.old n externals }
     ensures { Begun nodes.now work.new n result }
 {
-    let blocks = list_kind(nodes, work, n, externals, BLOCK);
+    let blocks = list_class(nodes, work, n, externals, Class::Block);
     let filled = externals + blocks;
     enlist_all(nodes, work, n, filled);
     settle_all(nodes, work, n, filled);

@@ -8,3 +8,4 @@ pub mod Readings
 pub mod Puts
 pub mod Compares
 pub mod Rules
+pub mod Classes

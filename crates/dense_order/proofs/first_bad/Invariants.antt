@@ -1,4 +1,3 @@
-use Prim.Native.Nat.{◌-◌}
 use Rattle.dense_order.proofs.Lowest.{Seeking}
 use Rattle.dense_order.proofs.first_bad.Given as goal
 

@@ -1,5 +1,3 @@
-use Prim.Native.Nat.{◌≤◌}
-use Rattle.record.specs.Node.{fields}
 use Rattle.dense_order.proofs.Last.{Among}
 use Rattle.dense_order.proofs.last_from.Given as goal
 

@@ -1,4 +1,3 @@
-use Prim.Native.Nat.{◌-◌}
 use Rattle.dense_order.proofs.Faults.{Ordered}
 use Rattle.dense_order.proofs.Lowest.{Seeking}
 use Rattle.dense_order.proofs.validate_records.Given as goal

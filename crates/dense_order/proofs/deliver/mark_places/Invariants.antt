@@ -1,4 +1,3 @@
-use Prim.Native.Nat.{◌-◌}
 use Rattle.dense_order.proofs.Marking.{Marking}
 use Rattle.dense_order.proofs.deliver.mark_places.Given as goal
 

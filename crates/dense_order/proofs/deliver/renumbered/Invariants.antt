@@ -1,5 +1,3 @@
-use Prim.Native.Nat.{◌-◌}
-use Rattle.record.specs.Node.{fields}
 use Rattle.dense_order.specs.Marks.{new_id}
 use Rattle.dense_order.proofs.Filling.{Renumbering}
 use Rattle.dense_order.proofs.deliver.renumbered.Given as goal

@@ -1,4 +1,3 @@
-use Prim.Native.Nat.{◌-◌}
 use Rattle.record.specs.Lists.{run}
 use Rattle.dense_order.specs.Marks.{new_id}
 use Rattle.dense_order.proofs.Filling.{Filled}

@@ -1,4 +1,3 @@
-use Prim.Native.Nat.{◌-◌}
 use Rattle.room.specs.Sections.{span}
 use Rattle.dense_order.proofs.Records.{Wrote, moved}
 use Rattle.dense_order.proofs.deliver.write_nodes.Given as goal

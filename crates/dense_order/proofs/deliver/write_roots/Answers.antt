@@ -1,7 +1,5 @@
 use native.Mathlib.Omega.{arith}
-use lib.ListN.{get_or}
 use Rattle.claims.specs.Searches.{get_d_mem}
-use Rattle.dense_order.specs.Marks.{Placed}
 use Rattle.dense_order.proofs.Filling.{filled_start, filled_long, filled_step, filled_end}
 use Rattle.dense_order.proofs.deliver.write_roots.Goals as goal
 

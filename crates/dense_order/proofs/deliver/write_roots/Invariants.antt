@@ -1,5 +1,3 @@
-use Prim.Native.Nat.{◌-◌}
-use lib.ListN.{length}
 use Rattle.dense_order.specs.Marks.{new_id}
 use Rattle.dense_order.proofs.Filling.{Filled}
 use Rattle.dense_order.proofs.deliver.write_roots.Given as goal

@@ -1,4 +1,3 @@
-use Prim.Native.Nat.{◌-◌}
 use Rattle.dense_order.proofs.Enlisting.{Chaining}
 use Rattle.dense_order.proofs.order.link_kids.Given as goal
 

@@ -1,4 +1,3 @@
-use Prim.Native.Nat.{◌-◌}
 use Rattle.dense_order.proofs.ChildRange.{Near}
 use Rattle.dense_order.proofs.ranges.far_child.Given as goal
 

@@ -1,4 +1,4 @@
-use Prim.Native.Nat.{◌-◌, ◌<◌}
+use Prim.Native.Nat.{◌<◌}
 use Rattle.dense_order.proofs.Repeats.{Unlike}
 use Rattle.dense_order.proofs.ranges.repeated.Given as goal
 
