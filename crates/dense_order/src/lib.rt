@@ -29,13 +29,7 @@ pub const WORK_WORDS: usize = 16;
 pub fn first_bad(nodes: &[u8]) -> Option<usize>
     ensures { result ≡ lowest bad (nodes_of nodes.now) }
 {
-    let n = nodes.len() / record::SIZE;
-    for i in 0..n {
-        if record::bad(record::node_at(nodes, i)) {
-            return Some(i);
-        }
-    }
-    None
+    (0..nodes.len() / record::SIZE).find(|i| record::bad(record::node_at(nodes, *i)))
 }
 
 // The last child of a node that is at or above `low`.

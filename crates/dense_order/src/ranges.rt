@@ -35,12 +35,10 @@ pub(crate) fn repeated(nodes: &[u8], work: &[u32], count: usize) -> Option<usize
     requires listed { Listed nodes.now (span work.now 0 count) }
     ensures { result ≡ repeat (nodes_of nodes.now) (span work.now 0 count) }
 {
-    for i in 1..count {
-        let first = work[i - 1];
-        let second = work[i];
-        let digest = record::digest_at(nodes, first as usize);
-        if sorting::has_digest(nodes, digest, second) {
-            return Some(second as usize);
+    for pair in work[..count].windows(2) {
+        let digest = record::digest_at(nodes, pair[0] as usize);
+        if sorting::has_digest(nodes, digest, pair[1]) {
+            return Some(pair[1] as usize);
         }
     }
     None
