@@ -49,9 +49,9 @@ fn renumbered(node: Node, work: &[u32], n: usize) -> Node
     let mut kids = node.kids;
     let digest = node.digest;
     // Over all fields: a loop of fixed length keeps them in registers.
-    for i in 0..FIELDS {
+    for (i, kid) in kids.iter_mut().enumerate() {
         if i < count {
-            kids[i] = new_id(work, n, kids[i] as usize);
+            *kid = new_id(work, n, *kid as usize);
         }
     }
     Node {
@@ -67,8 +67,8 @@ pub(crate) fn write_nodes(nodes: &[u8], work: &[u32], n: usize, out: &mut [u8])
     requires { Writable nodes.now work.now out.old n }
     ensures { out.new ≡ flat node_bytes (map (λ p. renumber (new_id work.now n) (node_at nodes.now p)) (span work.now 0 n)) }
 {
-    for k in 0..n {
-        let node = record::node_at(nodes, work[k] as usize);
+    for (k, id) in work[..n].iter().enumerate() {
+        let node = record::node_at(nodes, *id as usize);
         record::put_node(out, k, renumbered(node, work, n));
     }
 }
