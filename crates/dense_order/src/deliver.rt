@@ -16,8 +16,9 @@ pub(crate) fn mark_places(work: &mut [u32], n: usize, filled: usize)
     requires { Unmarked work.old n filled }
     ensures { Marked work.old work.new n filled }
 {
-    for k in 0..filled {
-        work[n + work[k] as usize] = (k + 1) as u32;
+    let (order, marks) = work.split_at_mut(n);
+    for (k, id) in order[..filled].iter().enumerate() {
+        marks[*id as usize] = (k + 1) as u32;
     }
 }
 
