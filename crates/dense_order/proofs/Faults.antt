@@ -1,6 +1,6 @@
 -- Laws of the checks node by node.
 -- Assumes nothing.
-use Prim.Native.Nat.{ℕ, ◌+◌, ◌-◌, ◌/◌, ◌<◌, ◌≤◌}
+use Prim.Native.Nat.{ℕ, zero, suc, ◌+◌, ◌-◌, ◌/◌, ◌<◌, ◌≤◌}
 use mathlib.Core.Path.{◌≡◌, refl}
 use mathlib.Core.Bool.{Bool, true, false, not, ◌&&◌, ◌||◌}
 use mathlib.Core.List.{List, [], ◌∷◌}
@@ -22,6 +22,7 @@ use Rattle.forest.specs.Validate.{forward, fault, faults, node_faults}
 use Rattle.forest.specs.declared.Reply.{Reply}
 use Rattle.forest.specs.declared.Reply.TheVariants.{ClassOrder, DigestOrder, ForwardReference}
 use Rattle.dense_order.specs.Found.{Checked, check_of}
+use Rattle.dense_order.specs.Faults.{fault_at}
 use Rattle.dense_order.proofs.Options.{refused_some, passed_none}
 use Rattle.dense_order.proofs.Rest.{nodes_from, rest_all, rest_step, rest_end}
 
@@ -80,37 +81,49 @@ module _ (i : ℕ) (n m : Node) (j k : Class) (p : k ≡ class m) (q : j ≡ cla
 
 -- NODE BY NODE ------------------------------------------------------------------------------------
 
--- the nodes before i pass, and there are such
-pub record Ordered (s : List ℕ) (i : ℕ) : Type 0 where
-  pub some : 1 ≤ i
-  pub pass : first (node_faults (nodes_of s)) ≡ first (faults i (node_at s (i - 1)) (nodes_from s i))
-
 module _ (s : List ℕ) where
-  pub none_ordered : length s / size ≤ 0 → (Ok tt) ≡ check_of (first (node_faults (nodes_of s)))
-  unfolding node_faults first check_of
-  none_ordered h = rw (rest_all s, rest_end s 0 h)
+  pub fault_first : (i : ℕ) → i ≡ 0 → forward i (node_at s i) ≡ fault_at s i
+  unfolding fault_at
+  fault_first i e = rw e
 
-  module _ (h : 0 < length s / size) where
-    pub first_refused : (r : Reply) → check_of (forward 0 (node_at s 0)) ≡ Err r → Err r ≡ check_of (first (node_faults (nodes_of s)))
-    unfolding node_faults first check_of
-    first_refused r e = rw (rest_all s, rest_step s 0 h, refused_some (forward 0 (node_at s 0)) r e)
+  pub fault_next : (i : ℕ) → (i ≡ 0 → ⊥) → fault i (node_at s (i - 1)) (node_at s i) ≡ fault_at s i
+  unfolding fault_at
+  fault_next zero h = absurd (h refl)
+  fault_next (suc j) h = let e : suc j - 1 ≡ j = omega arith in rw e
 
-    pub first_ordered : check_of (forward 0 (node_at s 0)) ≡ (Ok tt) → Ordered s 1
-    unfolding node_faults first
-    first_ordered e = record { some = omega arith; pass = rw (rest_all s, rest_step s 0 h, passed_none (forward 0 (node_at s 0)) e) }
+  -- what is wrong with the records from number i on
+  pub faults_from : ℕ → List (Option Reply)
+  faults_from zero = node_faults (nodes_from s zero)
+  faults_from (suc j) = faults (suc j) (node_at s j) (nodes_from s (suc j))
 
-  module _ (i : ℕ) (k : Ordered s i) where
+  faults_step : (i : ℕ) → i < length s / size → faults_from i ≡ fault_at s i ∷ faults_from (i + 1)
+  unfolding faults_from fault_at node_faults faults
+  faults_step zero h = rw (rest_step s 0 h)
+  faults_step (suc j) h = rw (rest_step s (suc j) h, add-one)
+
+  faults_end : (i : ℕ) → length s / size ≤ i → faults_from i ≡ []
+  unfolding faults_from node_faults faults
+  faults_end zero h = rw (rest_end s 0 h)
+  faults_end (suc j) h = rw (rest_end s (suc j) h)
+
+  -- the nodes before i pass
+  pub record Ordered (i : ℕ) : Type 0 where
+    pub pass : first (node_faults (nodes_of s)) ≡ first (faults_from i)
+
+  pub ordered_start : Ordered 0
+  unfolding faults_from
+  ordered_start = record { pass = rw (rest_all s) }
+
+  module _ (i : ℕ) (k : Ordered i) where
     module _ (h : i < length s / size) where
-      pub next_refused : (r : Reply) → check_of (fault i (node_at s (i - 1)) (node_at s i)) ≡ Err r → Err r ≡ check_of (first (node_faults (nodes_of s)))
-      unfolding faults first check_of
-      next_refused r e = rw (k.pass, rest_step s i h, refused_some (fault i (node_at s (i - 1)) (node_at s i)) r e)
+      pub next_refused : (r : Reply) → check_of (fault_at s i) ≡ Err r → Err r ≡ check_of (first (node_faults (nodes_of s)))
+      unfolding first check_of
+      next_refused r e = rw (k.pass, faults_step i h, refused_some (fault_at s i) r e)
 
-      pub next_ordered : check_of (fault i (node_at s (i - 1)) (node_at s i)) ≡ (Ok tt) → Ordered s (i + 1)
-      unfolding faults first
-      next_ordered e =
-          let z : i + 1 - 1 ≡ i = omega arith in
-          record { some = omega arith; pass = rw (k.pass, rest_step s i h, passed_none (fault i (node_at s (i - 1)) (node_at s i)) e, z, add-one) }
+      pub next_ordered : check_of (fault_at s i) ≡ (Ok tt) → Ordered (i + 1)
+      unfolding first
+      next_ordered e = record { pass = rw (k.pass, faults_step i h, passed_none (fault_at s i) e) }
 
     pub all_ordered : length s / size ≤ i → (Ok tt) ≡ check_of (first (node_faults (nodes_of s)))
-    unfolding faults first check_of
-    all_ordered h = rw (k.pass, rest_end s i h)
+    unfolding first check_of
+    all_ordered h = rw (k.pass, faults_end i h)

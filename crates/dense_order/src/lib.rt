@@ -6,9 +6,10 @@ ghost use Rattle.record.specs.Order.{before};
 ghost use Rattle.record.specs.Node.{size, rank, node_at, nodes_of, bad, children};
 ghost use Rattle.forest.specs.Lists.{lowest, last_of};
 ghost use Rattle.forest.specs.Lent.{first};
-ghost use Rattle.forest.specs.Validate.{bad_record, forward as forward_of, fault as fault_of, node_faults, validate as validated};
+ghost use Rattle.forest.specs.Validate.{bad_record, forward as forward_of, node_faults, validate as validated};
 ghost use Rattle.forest.specs.Canonicalize.{disorders, canonicalize as canonicalized};
 ghost use Rattle.dense_order.specs.Found.{check_of};
+ghost use Rattle.dense_order.specs.Faults.{fault_at};
 ghost use Rattle.dense_order.specs.Kinds.{Blank};
 ghost use Rattle.dense_order.specs.Steps.{size_checks, forest_checks, Fitting, Answers};
 
@@ -76,11 +77,14 @@ fn forward(nodes: &[u8], i: usize) -> Result<(), Reply>
     }
 }
 
-// Refuses record `i` for what is wrong with it first, after the record before it.
+// Refuses record `i` for what is wrong with it first, after the record before it, if there is one.
 fn fault(nodes: &[u8], i: usize) -> Result<(), Reply>
-    requires { (1 ≤ i) × (size * i + size ≤ length nodes.now) }
-    ensures { result ≡ check_of (fault_of i (node_at nodes.now (i - 1)) (node_at nodes.now i)) }
+    requires { size * i + size ≤ length nodes.now }
+    ensures { result ≡ check_of (fault_at nodes.now i) }
 {
+    if i == 0 {
+        return forward(nodes, i);
+    }
     let previous = record::class_of(record::kind_at(nodes, i - 1));
     let class = record::class_of(record::kind_at(nodes, i));
     if class < previous {
@@ -96,12 +100,7 @@ fn fault(nodes: &[u8], i: usize) -> Result<(), Reply>
 fn validate_dense_node_order(nodes: &[u8]) -> Result<(), Reply>
     ensures { result ≡ check_of (first (node_faults (nodes_of nodes.now))) }
 {
-    let n = nodes.len() / record::SIZE;
-    if n == 0 {
-        return Ok(());
-    }
-    forward(nodes, 0)?;
-    for i in 1..n {
+    for i in 0..nodes.len() / record::SIZE {
         fault(nodes, i)?;
     }
     Ok(())
@@ -121,17 +120,7 @@ fn bad_first(nodes: &[u8], reply: Reply) -> Result<(), Reply>
 fn validate_records(nodes: &[u8]) -> Result<(), Reply>
     ensures { result ≡ check_of (first (bad_record nodes.now ∷ node_faults (nodes_of nodes.now))) }
 {
-    let n = nodes.len() / record::SIZE;
-    if n == 0 {
-        return Ok(());
-    }
-    if let Err(reply) = forward(nodes, 0) {
-        return bad_first(nodes, reply);
-    }
-    if record::bad(record::node_at(nodes, 0)) {
-        return Err(Reply::BadRecord(0));
-    }
-    for i in 1..n {
+    for i in 0..nodes.len() / record::SIZE {
         if record::bad(record::node_at(nodes, i)) {
             return Err(Reply::BadRecord(i as u64));
         }
