@@ -162,7 +162,7 @@ marks_lowest t w n h =
     let e : n ≡ n + 0 = omega arith in
     rw d (subst (λ (k : ℕ). lowest t (take n (drop k w)) ≡ lowest (λ p. t (get_or w (n + p) 0)) (run 0 n)) (sym e) (words_lowest t w n 0 n (omega arith)))
 
--- A SEARCH THAT COUNTS ------------------------------------------------------------------------------------------
+-- A SEARCH THAT COUNTS ------------------------------------------------------------------------------
 
 -- the test fails at each of the first k numbers
 pub record Failing (t : ℕ → Bool) (n k : ℕ) : Type 0 where
