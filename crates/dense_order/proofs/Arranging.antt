@@ -9,7 +9,8 @@ use native.Mathlib.Omega.{arith}
 use native.Mathlib.Decide.{dec_lt}
 use lib.Dec.{ltb, eqb}
 use lib.ListN.{length, get_or, replicate, length-replicate, get_or-replicate, get_or-eq_default}
-use Rattle.record.specs.Node.{size, node_at, nodes_of, bad}
+use Rattle.record.specs.Node.{size, rank, class, node_at, nodes_of, bad}
+use Rattle.record.specs.declared.Class.TheVariants.{External}
 use Rattle.record.specs.declared.Node.{Node}
 use Rattle.record.proofs.Basics.{clash}
 use Rattle.record.proofs.Nodes.{length_nodes_of}
@@ -27,9 +28,9 @@ use Rattle.sorting.specs.Digests.{less}
 use Rattle.sorting.proofs.SortLaws.{sort_all}
 use Rattle.sorting.proofs.Uses.{kept_listed}
 use Rattle.dense_order.specs.Found.{Checked, check_of}
-use Rattle.dense_order.specs.Kinds.{Ordered, of_kind, Blank, Externals}
+use Rattle.dense_order.specs.Kinds.{Ordered, of_class, Blank, Externals}
 use Rattle.dense_order.specs.Steps.{Fitting, forest_checks, Answers}
-use Rattle.dense_order.proofs.Gathering.{externals_kind}
+use Rattle.dense_order.proofs.Gathering.{externals_class}
 use Rattle.dense_order.proofs.RootRange.{far_root_is}
 
 -- REFUSALS ----------------------------------------------------------------------------------------
@@ -70,8 +71,8 @@ passes {s} {w} {n} {r} differ near o e =
 
 -- the listed externals are numbers of nodes
 pub externals_numbered : {s w : List ℕ} {n r : ℕ} → Externals s w n r → Listed s (span w 0 r)
-unfolding of_kind Listed
-externals_numbered {s} x = rw (x.first, externals_kind s) (sort_all (less s) (kept_listed s (λ p. eqb (node_at s p).kind 0)))
+unfolding of_class Listed
+externals_numbered {s} x = rw (x.first, externals_class s) (sort_all (less s) (kept_listed s (λ p. eqb (rank (class (node_at s p))) (rank External))))
 
 -- what the search among the listed externals says of all
 module _ {s w : List ℕ} {n r : ℕ} (x : Externals s w n r) (q : Option ℕ) (said : q ≡ (repeat (nodes_of s) (span w 0 r))) where

@@ -12,7 +12,8 @@ use borrow.Author.Tests.{eqb-true, eq-eqb, ne_eqb}
 use lib.ListN.{length, get_or, get_or-replicate}
 use Rattle.room.proofs.Spans.{span_length, span_at, span_same, span_join}
 use Rattle.record.specs.Lists.{run}
-use Rattle.record.specs.Node.{node_at, nodes_of}
+use Rattle.record.specs.Node.{rank, class, node_at, nodes_of}
+use Rattle.record.specs.declared.Class.TheVariants.{External, Block}
 use Rattle.record.specs.declared.Node.{Node}
 use Rattle.record.proofs.Basics.{clash}
 use Rattle.record.proofs.Nodes.{length_nodes_of}
@@ -29,28 +30,28 @@ use Rattle.room.proofs.Spans.{span_length, span_at, span_join, span_same}
 use Rattle.sorting.specs.Promises.{Room, Sorts}
 use Rattle.sorting.specs.Digests.{less}
 use Rattle.sorting.proofs.Uses.{kept_listed}
-use Rattle.dense_order.specs.Kinds.{Ordered, of_kind, Space, Kinds, Blank, Externals}
+use Rattle.dense_order.specs.Kinds.{Ordered, of_class, Space, Members, Blank, Externals}
 use Rattle.dense_order.specs.Marks.{mark_of, Unmarked, Marked}
 use Rattle.dense_order.specs.State.{heads_at, Fair, Settles, Begun, Released, Fresh, Opened}
-use Rattle.dense_order.proofs.Gathering.{externals_kind, blocks_kind}
+use Rattle.dense_order.proofs.Gathering.{externals_class, blocks_class}
 
 -- EXTERNALS ---------------------------------------------------------------------------------------
 
 pub space_blank : {s w : List ℕ} {n : ℕ} → Blank s w n → Space s w n 0
 space_blank a = record { counted = a.counted; few = a.few; fits = let z = a.room in omega arith }
 
-pub room_sort : {s w w₁ : List ℕ} {n r : ℕ} → Blank s w n → length w₁ ≡ length w → Kinds s w w₁ 0 0 r → Room s w₁ 0 r (heads_at n)
-unfolding of_kind
+pub room_sort : {s w w₁ : List ℕ} {n r : ℕ} → Blank s w n → length w₁ ≡ length w → Members s w w₁ 0 External r → Room s w₁ 0 r (heads_at n)
+unfolding of_class
 room_sort {s} {w} {w₁} {n} {r} a l k =
     let z = a.room in
     let y = k.few in
     let x = a.counted in
-    record { fits = omega arith; spared = omega arith; apart = omega arith; listed = rw k.puts.put (kept_listed s (λ p. eqb (node_at s p).kind 0)) }
+    record { fits = omega arith; spared = omega arith; apart = omega arith; listed = rw k.puts.put (kept_listed s (λ p. eqb (rank (class (node_at s p))) (rank External))) }
 
-pub externals_listed : {s w w₁ w₂ : List ℕ} {n r : ℕ} → Blank s w n → length w₁ ≡ length w → length w₂ ≡ length w₁ → Kinds s w w₁ 0 0 r → Sorts (less s) w₁ w₂ 0 r (heads_at n) → Externals s w₂ n r
+pub externals_listed : {s w w₁ w₂ : List ℕ} {n r : ℕ} → Blank s w n → length w₁ ≡ length w → length w₂ ≡ length w₁ → Members s w w₁ 0 External r → Sorts (less s) w₁ w₂ 0 r (heads_at n) → Externals s w₂ n r
 externals_listed {s} {w} {w₁} {w₂} {n} {r} a l m k t = record {
   some = let y = k.few in let x = a.counted in omega arith;
-  first = (let z : 0 + r ≡ r = omega arith in let q = t.sorted in rw z at q) ∙ (ap (sort (less s)) (let z : 0 + r ≡ r = omega arith in let q = k.puts.put in rw z at q) ∙ sym (externals_kind s));
+  first = (let z : 0 + r ≡ r = omega arith in let q = t.sorted in rw z at q) ∙ (ap (sort (less s)) (let z : 0 + r ≡ r = omega arith in let q = k.puts.put in rw z at q) ∙ sym (externals_class s));
   zeros = λ y h. zero_at y h (dec_lt y (heads_at n)) (dec_lt y (heads_at n + r));
 }
   where
@@ -77,7 +78,7 @@ space_blocks f r x = record { counted = f.counted; few = f.few; fits = let z = x
 begun_few : (g : List Node) → length (begun g) ≤ length g
 begun_few g = pigeonhole (length g) (begun_distinct g) (λ x m. (begun_in g x m).1)
 
-pub fresh_blocks : {s w w₁ : List ℕ} {n e b : ℕ} → Fair s n → work_words * n ≤ length w → Externals s w n e → length w₁ ≡ length w → Kinds s w w₁ e 1 b → Fresh s w₁ n (e + b)
+pub fresh_blocks : {s w w₁ : List ℕ} {n e b : ℕ} → Fair s n → work_words * n ≤ length w → Externals s w n e → length w₁ ≡ length w → Members s w w₁ e Block b → Fresh s w₁ n (e + b)
 unfolding begun
 fresh_blocks {s} {w} {w₁} {n} {e} {b} f r x l k = record {
   fair = f;
@@ -94,7 +95,7 @@ fresh_blocks {s} {w} {w₁} {n} {e} {b} f r x l k = record {
     fits = let q = x.some in let z = k.few in let y = f.counted in omega arith
 
     first_is : span w₁ 0 (e + b) ≡ externals (nodes_of s) ++ blocks (nodes_of s)
-    first_is = span_join w₁ 0 e (e + b) (omega arith) (omega arith) ∙ rw (kept, k.puts.put, blocks_kind s)
+    first_is = span_join w₁ 0 e (e + b) (omega arith) (omega arith) ∙ rw (kept, k.puts.put, blocks_class s)
 
     few : e + b ≤ n
     few =

@@ -1,7 +1,7 @@
--- Laws of listing the ids of one kind.
+-- Laws of listing the ids of one class.
 -- Assumes nothing.
 use Prim.Native.Nat.{ℕ, zero, suc, ◌/◌, ◌≤◌}
-use mathlib.Core.Path.{◌≡◌, refl, sym, ◌∙◌, ap}
+use mathlib.Core.Path.{◌≡◌, refl, sym, ap}
 use mathlib.Core.Bool.{Bool, true, false}
 use mathlib.Core.List.{List, [], ◌∷◌, Memᴰ}
 use native.Mathlib.Omega.{arith}
@@ -10,6 +10,8 @@ use borrow.Author.Tests.{ne_eqb}
 use lib.ListN.{length}
 use Rattle.record.specs.Lists.{run}
 use Rattle.record.specs.Node.{size, node_at, nodes_of, class_of, rank, class, is_external, is_block}
+use Rattle.record.specs.declared.Class.{Class}
+use Rattle.record.specs.declared.Class.TheVariants.{External, Block}
 use Rattle.record.specs.declared.Node.{Node}
 use Rattle.record.proofs.Lengths.{length_run}
 use Rattle.record.proofs.Nodes.{length_nodes_of}
@@ -19,11 +21,11 @@ use Rattle.claims.specs.Sorts.{run_in}
 use Rattle.sorting.specs.Digests.{less}
 use Rattle.sorting.proofs.Keeping.{Keeping, keeping_count, keeping_end}
 use Rattle.sorting.proofs.Uses.{at_node_lem, externals_is}
-use Rattle.dense_order.specs.Kinds.{of_kind, Space, Kinds}
+use Rattle.dense_order.specs.Kinds.{of_class, Space, Members}
 
 -- all ids are looked at
-pub gathered : {s w₀ w : List ℕ} {n to count p : ℕ} (k : ℕ) → Space s w₀ n to → Keeping (λ q. eqb (node_at s q).kind k) (run 0 n) w₀ w to count p → n ≤ p → Kinds s w₀ w to k count
-unfolding of_kind
+pub gathered : {s w₀ w : List ℕ} {n to count p : ℕ} (k : Class) → Space s w₀ n to → Keeping (λ q. eqb (rank (class (node_at s q))) (rank k)) (run 0 n) w₀ w to count p → n ≤ p → Members s w₀ w to k count
+unfolding of_class
 gathered {n = n} k a m h =
     let l = length_run 0 n in
     let f = a.fits in
@@ -53,21 +55,12 @@ external_kind n = go n.kind
     go (suc zero) = refl
     go (suc (suc k)) = sym (ne_eqb (suc (suc k)) 0 (λ e. omega arith))
 
-block_kind : (n : Node) → is_block n ≡ eqb n.kind 1
-unfolding is_block class class_of rank
-block_kind n = go n.kind
-  where
-    go : (k : ℕ) → eqb (rank (class_of k)) 1 ≡ eqb k 1
-    go zero = refl
-    go (suc zero) = refl
-    go (suc (suc k)) = sym (ne_eqb (suc (suc k)) 1 (λ e. omega arith))
+pub externals_class : (s : List ℕ) → externals (nodes_of s) ≡ sort (less s) (of_class s External)
+unfolding of_class is_external
+externals_class s = externals_is s
 
-pub externals_kind : (s : List ℕ) → externals (nodes_of s) ≡ sort (less s) (of_kind s 0)
-unfolding of_kind
-externals_kind s = externals_is s ∙ ap (sort (less s)) (keep_same _ _ (run 0 (length s / size)) (λ p m. external_kind (node_at s p)))
-
-pub blocks_kind : (s : List ℕ) → blocks (nodes_of s) ≡ of_kind s 1
-unfolding blocks ids of_kind
-blocks_kind s =
+pub blocks_class : (s : List ℕ) → blocks (nodes_of s) ≡ of_class s Block
+unfolding blocks ids of_class is_block
+blocks_class s =
     rw (length_nodes_of s)
-    (keep_same _ _ (run 0 (length s / size)) (λ p m. let (a, b) = run_in 0 (length s / size) p m in ap is_block (at_node_lem s p (omega arith)) ∙ block_kind (node_at s p)))
+    (keep_same _ _ (run 0 (length s / size)) (λ p m. let (a, b) = run_in 0 (length s / size) p m in ap is_block (at_node_lem s p (omega arith))))

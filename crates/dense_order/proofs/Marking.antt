@@ -1,18 +1,19 @@
 -- Laws of marks: what one more id in the order changes, the loop that marks the places, and the search for an id without one.
 -- Assumes nothing.
-use Prim.Native.Nat.{ℕ, suc, ◌+◌, ◌<◌, ◌≤◌}
-use mathlib.Core.Path.{◌≡◌, refl, sym, ◌∙◌, ap}
+use Prim.Native.Nat.{ℕ, zero, suc, ◌+◌, ◌-◌, ◌*◌, ◌<◌, ◌≤◌}
+use mathlib.Core.Path.{◌≡◌, refl, sym, ◌∙◌, ap, subst}
 use mathlib.Core.Bool.{Bool, true, false}
 use mathlib.Core.List.{List, [], ◌∷◌, ◌++◌, Memᴰ}
 use mathlib.Core.Logic.{◌≢◌}
 use Rattle.std.specs.Prelude.{Some, None}
-use native.Mathlib.Decide.{ℕ_discrete}
+use native.Mathlib.Decide.{ℕ_discrete, dec_lt}
 use native.Mathlib.Omega.{arith}
 use native.Mathlib.Numerals.{add-one}
 use lib.Dec.{eqb}
 use borrow.Author.Tests.{eq-eqb, ne_eqb}
-use lib.ListN.{length, get_or, set, length-set}
-use lib.Seq.{get_or-set_same, get_or-set_other}
+use lib.ListN.{length, take, drop, get_or, set, length-set, length-append, get_or-append}
+use lib.Seq.{drop-cons, take_all, take-suc, take-append-le, length-take-le, get_or-set_same, get_or-set_other}
+use Rattle.std.proofs.lemmas.List.{get_or-append-add, take-append-drop}
 use Rattle.record.specs.Lists.{run}
 use Rattle.forest.specs.Lists.{here_or, lowest}
 use Rattle.claims.specs.Distinct.{Distinct, fresh}
@@ -62,69 +63,106 @@ span_mem w e k h l =
 
 -- THE LOOP ----------------------------------------------------------------------------------------
 
--- the marks that the first k words give are set
-pub record Marking (w₀ w : List ℕ) (n filled k : ℕ) : Type 0 where
-  pub within : k ≤ filled
-  pub kept : length w ≡ length w₀
-  pub marked : Marked w₀ w n k
+-- the ids can be marked: they are different and below n, and the first n of the words m₀ are 0
+pub record Markable (ids m₀ : List ℕ) (n : ℕ) : Type 0 where
+  pub apart : Distinct ids
+  pub below : (x : ℕ) → Memᴰ x ids → x < n
+  pub fits : n ≤ length m₀
+  pub clear : (p : ℕ) → p < n → get_or m₀ p 0 ≡ 0
 
-pub marking_start : (w : List ℕ) (n filled : ℕ) → Unmarked w n filled → Marking w w n filled 0
-marking_start w n filled u = record {
-  within = omega arith;
-  kept = refl;
-  marked = record { marks = λ p h. u.clear p h ∙ sym (rw (span_empty w 0 0 (omega arith)) (mark_none p)); rest = λ y o. refl };
-}
+-- the first k of the ids are marked in m, which is else as m₀ was
+pub record Marking (ids m₀ m : List ℕ) (n k : ℕ) : Type 0 where
+  pub within : k ≤ length ids
+  pub long : length m ≡ length m₀
+  pub marks : (p : ℕ) → p < n → get_or m p 0 ≡ mark_of (take k ids) p
+  pub rest : (y : ℕ) → n ≤ y → get_or m y 0 ≡ get_or m₀ y 0
 
-module _ {w₀ w : List ℕ} {n filled k : ℕ} (u : Unmarked w₀ n filled) (m : Marking w₀ w n filled k) (h : k < filled) where
-  word_same : get_or w k 0 ≡ get_or w₀ k 0
-  word_same = m.marked.rest k (λ z. let a = u.within in absurd (omega arith))
+module _ {ids m₀ : List ℕ} {n : ℕ} (a : Markable ids m₀ n) where
+  pub marking_start : Marking ids m₀ m₀ n 0
+  marking_start = record { within = omega arith; long = refl; marks = λ p h. a.clear p h ∙ sym (mark_none p); rest = λ y h. refl }
 
-  -- the word that is looked at is an id
-  pub marking_below : get_or w k 0 < n
-  marking_below = rw word_same (u.below (get_or w₀ k 0) (span_mem w₀ filled k h (let a = u.within in let b = u.fits in omega arith)))
+  -- the id that is looked at
+  module _ {k : ℕ} (h : k < length ids) where
+    pub marking_below : get_or ids k 0 < n
+    marking_below = a.below (get_or ids k 0) (get_d_mem ids k 0 h)
 
-  marking_new : ¬ Memᴰ (get_or w₀ k 0) (span w₀ 0 k)
-  marking_new =
-      let a = u.within in
-      let b = u.fits in
-      let e : span w₀ 0 filled ≡ span w₀ 0 k ++ get_or w₀ k 0 ∷ span w₀ (k + 1) filled = span_join w₀ 0 k filled (omega arith) (omega arith) ∙ ap (λ (l : List ℕ). span w₀ 0 k ++ l) (span_next w₀ k filled h (omega arith)) in
-      distinct_front (span w₀ 0 k) (get_or w₀ k 0) (span w₀ (k + 1) filled) (rw e at u.apart)
+    longer : take (k + 1) ids ≡ take k ids ++ get_or ids k 0 ∷ []
+    longer = rw (add-one, take-suc ids k 0 h)
 
-  longer : span w₀ 0 (k + 1) ≡ span w₀ 0 k ++ get_or w₀ k 0 ∷ []
-  longer = let a = u.within in let b = u.fits in span_last w₀ 0 k (omega arith) (omega arith)
+    new : ¬ Memᴰ (get_or ids k 0) (take k ids)
+    new =
+        let e : ids ≡ take k ids ++ get_or ids k 0 ∷ drop (suc k) ids = sym (take-append-drop k ids) ∙ ap (λ (l : List ℕ). take k ids ++ l) (drop-cons ids k 0 h) in
+        distinct_front (take k ids) (get_or ids k 0) (drop (suc k) ids) (rw (← e) a.apart)
 
-  marks_next : (x : ℕ) → get_or w₀ k 0 ≡ x → x < n → (p : ℕ) → p < n → get_or (set w (n + x) (k + 1)) (n + p) 0 ≡ mark_of (span w₀ 0 (k + 1)) p
-  marks_next x e b p q =
-      let f = u.fits in
-      let g = u.within in
-      let l = m.kept in
-      elim (ℕ_discrete p x) [
-        | yes r ↦
-            let s : length (span w₀ 0 k) ≡ k = omega (arith, span_length w₀ 0 k (omega arith)) in
-            let new : ¬ Memᴰ x (span w₀ 0 k) = rw e at marking_new in
-            rw (r, get_or-set_same w (n + x) (k + 1) 0 (omega arith), longer, e, mark_new (span w₀ 0 k) x new, s, add-one)
-        | no r ↦
-            rw (get_or-set_other w (n + x) (n + p) (k + 1) 0 (λ z. r (omega arith)), longer, e, mark_other (span w₀ 0 k) x p r) (m.marked.marks p q)
-      ]
+    pub marking_step : {m : List ℕ} → Marking ids m₀ m n k → Marking ids m₀ (set m (get_or ids k 0) (k + 1)) n (k + 1)
+    marking_step {m} r =
+        let x : ℕ = get_or ids k 0 in
+        let b : x < n = marking_below in
+        let f = a.fits in
+        let l = r.long in
+        record {
+          within = omega arith;
+          long = simp length-set l;
+          marks =
+              λ p q.
+              rw longer
+              (elim (ℕ_discrete p x) [
+                | yes e ↦ rw e (get_or-set_same m x (k + 1) 0 (omega arith) ∙ sym (mark_new (take k ids) x new ∙ ap suc (length-take-le k ids (omega arith)) ∙ sym (add-one k)))
+                | no e ↦ get_or-set_other m x p (k + 1) 0 e ∙ (r.marks p q ∙ sym (mark_other (take k ids) x p e))
+              ]);
+          rest = λ y u. get_or-set_other m x y (k + 1) 0 (λ z. omega arith) ∙ r.rest y u;
+        }
 
-  pub marking_step : Marking w₀ (set w (n + get_or w k 0) (k + 1)) n filled (k + 1)
-  marking_step = record {
-    within = omega arith;
-    kept = simp length-set m.kept;
-    marked = record {
-      marks = marks_next (get_or w k 0) (sym word_same) marking_below;
-      rest =
-          λ y o.
-          let b = marking_below in
-          get_or-set_other w (n + get_or w k 0) y (k + 1) 0 (λ z. omega (arith, o (omega arith)))
-          ∙ m.marked.rest y o;
-    };
+-- the order f and the words b behind it are the room
+module _ {w : List ℕ} (f b : List ℕ) {n filled : ℕ} (u : Unmarked w n filled) (e : w ≡ f ++ b) (l : length f ≡ n) where
+  order_is : span w 0 filled ≡ take filled f
+  unfolding span
+  order_is = let z : filled - 0 ≡ filled = omega arith in let i = u.within in rw (z, e) (take-append-le filled f b (omega arith))
+
+  behind : (c : List ℕ) (p : ℕ) → get_or (f ++ c) (n + p) 0 ≡ get_or c p 0
+  behind c p = rw (← l) (get_or-append-add f c p 0)
+
+  pub markable : Markable (take filled f) b n
+  markable = record {
+    apart = rw (← order_is) u.apart;
+    below = rw (← order_is) u.below;
+    fits = let z : length w ≡ length f + length b = rw e (length-append f b) in let y = u.fits in omega arith;
+    clear = λ p h. sym (behind b p) ∙ rw (← e) (u.clear p h);
   }
 
-pub marking_end : {w₀ w : List ℕ} {n filled k : ℕ} → Marking w₀ w n filled k → filled ≤ k → Marked w₀ w n filled
-marking_end {w₀} {w} {n} {filled} {k} m h = let a = m.within in let e : k ≡ filled = omega arith in rw e at m.marked
+  pub marking_end : {m : List ℕ} {k : ℕ} → Marking (take filled f) b m n k → length (take filled f) ≤ k → Marked w (f ++ m) n filled
+  marking_end {m} {k} r h = record {
+    marks = λ p q. behind m p ∙ (r.marks p q ∙ rw (order_is, take_all k (take filled f) h));
+    rest = λ y o. rw e (elim (dec_lt y n) [ yes h ↦ before y h | no h ↦ past y (omega arith) (o (omega arith)) ]);
+  }
+    where
+      before : (y : ℕ) → y < n → get_or (f ++ m) y 0 ≡ get_or (f ++ b) y 0
+      before y h = get_or-append f m 0 y (omega arith) ∙ sym (get_or-append f b 0 y (omega arith))
 
--- THE SEARCH --------------------------------------------------------------------------------------
+      past : (y : ℕ) → n ≤ y → n + n ≤ y → get_or (f ++ m) y 0 ≡ get_or (f ++ b) y 0
+      past y h i =
+          let z : n + (y - n) ≡ y = omega arith in
+          ap (λ (j : ℕ). get_or (f ++ m) j 0) (sym z) ∙ (behind m (y - n) ∙ (r.rest (y - n) (omega arith) ∙ (sym (behind b (y - n)) ∙ ap (λ (j : ℕ). get_or (f ++ b) j 0) z)))
+
+-- AMONG THE MARKS ----------------------------------------------------------------------------------
+
+module _ (t : ℕ → Bool) (w : List ℕ) (a : ℕ) where
+  -- what is found among the n words from a + b on
+  words_lowest : (b n : ℕ) → a + b + n ≤ length w → lowest t (take n (drop (a + b) w)) ≡ lowest (λ p. t (get_or w (a + p) 0)) (run b n)
+  unfolding lowest run
+  words_lowest b zero h = refl
+  words_lowest b (suc n) h =
+      let e : suc (a + b) ≡ a + suc b = omega arith in
+      rw (drop-cons w (a + b) 0 (omega arith), e, words_lowest (suc b) n (omega arith))
+
+-- what is found among the marks
+pub marks_lowest : (t : ℕ → Bool) (w : List ℕ) (n : ℕ) → 2 * n ≤ length w → lowest t (take (2 * n - n) (drop n w)) ≡ lowest (λ p. t (get_or w (n + p) 0)) (run 0 n)
+marks_lowest t w n h =
+    let d : 2 * n - n ≡ n = omega arith in
+    let e : n ≡ n + 0 = omega arith in
+    rw d (subst (λ (k : ℕ). lowest t (take n (drop k w)) ≡ lowest (λ p. t (get_or w (n + p) 0)) (run 0 n)) (sym e) (words_lowest t w n 0 n (omega arith)))
+
+-- A SEARCH THAT COUNTS ------------------------------------------------------------------------------
 
 -- the test fails at each of the first k numbers
 pub record Failing (t : ℕ → Bool) (n k : ℕ) : Type 0 where

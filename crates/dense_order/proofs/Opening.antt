@@ -14,7 +14,6 @@ use lib.Seq.{get_or-set_same, get_or-set_other}
 use Rattle.record.specs.Node.{fields, node_at, nodes_of, is_internal, children}
 use Rattle.record.specs.declared.Node.{Node}
 use Rattle.record.proofs.Nodes.{not_internal, length_nodes_of}
-use Rattle.record.proofs.Rules.{internal_kind}
 use Rattle.forest.specs.Graph.{at}
 use Rattle.forest.specs.Lists.{has, keep}
 use Rattle.forest.specs.Order.{begun}
@@ -103,22 +102,22 @@ module _ {s w w₁ : List ℕ} {n p r : ℕ} (a : Enlisted s w n p) (h : p < n) 
       joined j q (no d) = c.others j (omega arith) d ∙ (tree_counted.1 j (omega arith) ∙ a.members j (omega arith))
 
   -- the code's test
-  test_is : (k : ℕ) → k ≡ (node_at s p).kind → (is_internal (at (nodes_of s) p) && eqb (length (children (at (nodes_of s) p))) 0) ≡ not (ltb k 2 || ltb 0 r)
-  test_is k e = rw (sym count_now) (go (is_internal (at (nodes_of s) p)) refl (ltb 0 r) refl)
+  test_is : (t : Bool) → t ≡ not (is_internal (node_at s p)) → (is_internal (at (nodes_of s) p) && eqb (length (children (at (nodes_of s) p))) 0) ≡ not (t || ltb 0 r)
+  test_is t e = rw (sym count_now) (go (is_internal (at (nodes_of s) p)) refl (ltb 0 r) refl)
     where
-      kind_is : not (is_internal (at (nodes_of s) p)) ≡ ltb k 2
-      kind_is = rw e (internal_kind (at (nodes_of s) p) ∙ ap (λ x. ltb x.kind 2) (node_is a.fair h))
+      class_is : not (is_internal (at (nodes_of s) p)) ≡ t
+      class_is = ap (λ x. not (is_internal x)) (node_is a.fair h) ∙ sym e
 
-      go : (i : Bool) → is_internal (at (nodes_of s) p) ≡ i → (b : Bool) → ltb 0 r ≡ b → (is_internal (at (nodes_of s) p) && eqb r 0) ≡ not (ltb k 2 || ltb 0 r)
-      go true i true b = let z : 0 < r = ltb-true 0 r b in rw (sym kind_is, i, b, ne_eqb r 0 (λ q. omega arith))
-      go true i false b = let z : r ≤ 0 = ltb-false 0 r b in rw (sym kind_is, i, b, eq-eqb r 0 (omega arith))
-      go false i b c = rw (sym kind_is, i)
+      go : (i : Bool) → is_internal (at (nodes_of s) p) ≡ i → (b : Bool) → ltb 0 r ≡ b → (is_internal (at (nodes_of s) p) && eqb r 0) ≡ not (t || ltb 0 r)
+      go true i true b = let z : 0 < r = ltb-true 0 r b in rw (sym class_is, i, b, ne_eqb r 0 (λ q. omega arith))
+      go true i false b = let z : r ≤ 0 = ltb-false 0 r b in rw (sym class_is, i, b, eq-eqb r 0 (omega arith))
+      go false i b c = rw (sym class_is, i)
 
-  pub test_plain : (k : ℕ) → k ≡ (node_at s p).kind → (ltb k 2 || ltb 0 r) ≡ true → (is_internal (at (nodes_of s) p) && eqb (length (children (at (nodes_of s) p))) 0) ≡ false
-  test_plain k e t = test_is k e ∙ rw t
+  pub test_plain : (t : Bool) → t ≡ not (is_internal (node_at s p)) → (t || ltb 0 r) ≡ true → (is_internal (at (nodes_of s) p) && eqb (length (children (at (nodes_of s) p))) 0) ≡ false
+  test_plain t e u = test_is t e ∙ rw u
 
-  pub test_ready : (k : ℕ) → k ≡ (node_at s p).kind → (ltb k 2 || ltb 0 r) ≡ false → (is_internal (at (nodes_of s) p) && eqb (length (children (at (nodes_of s) p))) 0) ≡ true
-  test_ready k e t = test_is k e ∙ rw t
+  pub test_ready : (t : Bool) → t ≡ not (is_internal (node_at s p)) → (t || ltb 0 r) ≡ false → (is_internal (at (nodes_of s) p) && eqb (length (children (at (nodes_of s) p))) 0) ≡ true
+  test_ready t e u = test_is t e ∙ rw u
 
 -- ALL IDS -----------------------------------------------------------------------------------------
 

@@ -1,12 +1,12 @@
 -- Laws of a loop that writes one record after the other, and of the nodes in their order.
 -- Assumes nothing.
 use Prim.Native.Nat.{ℕ, ◌+◌, ◌*◌, ◌<◌, ◌≤◌}
-use mathlib.Core.Path.{◌≡◌, refl, ◌∙◌, ap}
+use mathlib.Core.Path.{◌≡◌, refl, sym, ◌∙◌, ap}
 use mathlib.Core.List.{List, [], ◌∷◌, ◌++◌, map, map-append, append-nil, append_assoc, Memᴰ}
 use native.Mathlib.Omega.{arith}
 use native.Mathlib.Numerals.{add-one}
-use lib.ListN.{length, take, drop, get_or, length-append, length-drop, drop_of_length-le}
-use lib.Seq.{take_all, take-suc, take_at, drop-append-add, drop-drop, length-take-le}
+use lib.ListN.{length, take, drop, get_or, length-append, length-take, length-drop, drop_of_length-le}
+use lib.Seq.{take_all, take-suc, take_at, drop-append-add, drop-drop, length-take-le, get_or-take}
 use Rattle.record.specs.Lists.{over, flat}
 use Rattle.record.specs.Node.{fields, size, node_at, node_bytes, children, renumber}
 use Rattle.record.specs.declared.Node.{Node}
@@ -89,24 +89,28 @@ module _ {s w out₀ : List ℕ} {n : ℕ} (b : Writable s w out₀ n) where
   moving_start = wrote_start (moved s w n) (span w 0 n) out₀ (let a = b.room in let l = order_long in omega arith)
 
   -- the word that is looked at is an id, and its node can be renumbered
-  module _ {k : ℕ} (h : k < n) where
-    pub moving_below : get_or w k 0 < n
-    moving_below = let f = b.fits in b.below (get_or w k 0) (span_mem w n k h (omega arith))
+  module _ {k : ℕ} (h : k < length (take n w)) where
+    word : (k < n) × (get_or (take n w) k 0 ≡ get_or w k 0)
+    word = let i : k < n = omega (arith, length-take n w) in (i, get_or-take n w k 0 i)
 
-    pub moving_ready : (node : Node) → node ≡ node_at s (get_or w k 0) → (node.count ≤ fields) × ((2 * n ≤ length w) × ((c : ℕ) → Memᴰ c (children node) → Placed w n c))
-    moving_ready node e = rw e (b.few (get_or w k 0) moving_below, (b.fits, b.placed (get_or w k 0) moving_below))
+    pub moving_below : get_or (take n w) k 0 < n
+    moving_below = let f = b.fits in rw word.1 (b.below (get_or w k 0) (span_mem w n k word.0 (omega arith)))
+
+    pub moving_ready : (node : Node) → node ≡ node_at s (get_or (take n w) k 0) → (node.count ≤ fields) × ((2 * n ≤ length w) × ((c : ℕ) → Memᴰ c (children node) → Placed w n c))
+    moving_ready node e = let x = get_or (take n w) k 0 in rw e (b.few x moving_below, (b.fits, b.placed x moving_below))
 
   module _ {out : List ℕ} {k : ℕ} (r : Wrote (moved s w n) (span w 0 n) out₀ out k) where
     pub moving_long : length out ≡ length out₀
     moving_long = wrote_long (moved_full s w n) r
 
-    pub moving_step : {out₁ : List ℕ} (node new : Node) → k < n → node ≡ node_at s (get_or w k 0) → new ≡ renumber (new_id w n) node → out₁ ≡ over out (size * k) (node_bytes new)
+    pub moving_step : {out₁ : List ℕ} (node new : Node) → k < length (take n w) → node ≡ node_at s (get_or (take n w) k 0) → new ≡ renumber (new_id w n) node → out₁ ≡ over out (size * k) (node_bytes new)
         → Wrote (moved s w n) (span w 0 n) out₀ out₁ (k + 1)
     moving_step node new h e f q =
         let z : 0 + k ≡ k = omega arith in
-        let a : get_or (span w 0 n) k 0 ≡ get_or w k 0 = span_at w 0 n k (omega arith) ∙ ap (λ (i : ℕ). get_or w i 0) z in
+        let (i, v) = word h in
+        let a : get_or (span w 0 n) k 0 ≡ get_or (take n w) k 0 = span_at w 0 n k (omega arith) ∙ ap (λ (i : ℕ). get_or w i 0) z ∙ sym v in
         let l = order_long in
         wrote_step (moved_full s w n) r (omega arith) (rw (q, f, e, a))
 
-    pub moving_end : n ≤ k → out ≡ flat node_bytes (map (moved s w n) (span w 0 n))
-    moving_end h = let l = order_long in wrote_end (moved_full s w n) r (omega arith) (rw order_long b.room)
+    pub moving_end : length (take n w) ≤ k → out ≡ flat node_bytes (map (moved s w n) (span w 0 n))
+    moving_end h = let l = order_long in let f = b.fits in let t : length (take n w) ≡ n = omega (arith, length-take n w) in wrote_end (moved_full s w n) r (omega arith) (rw order_long b.room)

@@ -1,17 +1,18 @@
--- Listing the ids of one kind, and what the order holds before any internal.
+-- Listing the ids of one class, and what the order holds before any internal.
 -- Assumes nothing: these are definitions.
 use Rattle.std.specs.Prelude.{ℕ, suc, ◌+◌, ◌*◌, ◌/◌, ◌<◌, ◌≤◌, ◌≡◌, List, eqb, length, get_or, None, Option}
 use Rattle.record.specs.Lists.{run}
-use Rattle.record.specs.Node.{size, node_at, nodes_of}
+use Rattle.record.specs.Node.{size, rank, class, node_at, nodes_of}
+use Rattle.record.specs.declared.Class.{Class}
 use Rattle.forest.specs.Lent.{work_words, most}
 use Rattle.forest.specs.Lists.{keep}
 use Rattle.forest.specs.Order.{externals, order, unreleased}
 use Rattle.room.specs.Sections.{span, Out, Puts}
 use Rattle.dense_order.specs.Marks.{mark_of}
 
--- the ids of the records of kind k, in their order
-unfoldable pub of_kind : List ℕ → ℕ → List ℕ
-of_kind s k = keep (λ p. eqb (node_at s p).kind k) (run 0 (length s / size))
+-- the ids of the records of class k, in their order
+unfoldable pub of_class : List ℕ → Class → List ℕ
+of_class s k = keep (λ p. eqb (rank (class (node_at s p))) (rank k)) (run 0 (length s / size))
 
 -- room for n ids from place `to` on
 pub record Space (s w : List ℕ) (n to : ℕ) : Type 0 where
@@ -19,11 +20,11 @@ pub record Space (s w : List ℕ) (n to : ℕ) : Type 0 where
   pub few : n ≤ most
   pub fits : to + n ≤ length w
 
--- r ids of kind k are listed from place `to` on, and nothing else has changed
-pub record Kinds (s w w' : List ℕ) (to k r : ℕ) : Type 0 where
-  pub count : r ≡ length (of_kind s k)
+-- the r ids of class k are listed from place `to` on, and nothing else has changed
+pub record Members (s w w' : List ℕ) (to : ℕ) (k : Class) (r : ℕ) : Type 0 where
+  pub count : r ≡ length (of_class s k)
   pub few : r ≤ length s / size
-  pub puts : Puts (of_kind s k) w w' to r
+  pub puts : Puts (of_class s k) w w' to r
 
 -- a room of zeros for a forest of n nodes
 pub record Blank (s w : List ℕ) (n : ℕ) : Type 0 where

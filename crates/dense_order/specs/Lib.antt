@@ -1,4 +1,5 @@
 pub mod Found
+pub mod Faults
 pub mod Mentions
 pub mod State
 pub mod Marks

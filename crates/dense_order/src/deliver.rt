@@ -16,10 +16,9 @@ pub(crate) fn mark_places(work: &mut [u32], n: usize, filled: usize)
     requires { Unmarked work.old n filled }
     ensures { Marked work.old work.new n filled }
 {
-    let mut k = 0;
-    while k < filled {
-        work[n + work[k] as usize] = (k + 1) as u32;
-        k += 1;
+    let (order, marks) = work.split_at_mut(n);
+    for (k, id) in order[..filled].iter().enumerate() {
+        marks[*id as usize] = (k + 1) as u32;
     }
 }
 
@@ -28,14 +27,7 @@ pub(crate) fn first_unplaced(work: &[u32], n: usize) -> Option<usize>
     requires { 2 * n ≤ length work.now }
     ensures { result ≡ lowest (λ p. eqb (get_or work.now (n + p) 0) 0) (run 0 n) }
 {
-    let mut p = 0;
-    while p < n {
-        if work[n + p] == 0 {
-            return Some(p);
-        }
-        p += 1;
-    }
-    None
+    work[n..2 * n].iter().position(|mark| *mark == 0)
 }
 
 // The new id of c: 1 less than its mark.
@@ -58,12 +50,10 @@ fn renumbered(node: Node, work: &[u32], n: usize) -> Node
     let mut kids = node.kids;
     let digest = node.digest;
     // Over all fields: a loop of fixed length keeps them in registers.
-    let mut i = 0;
-    while i < FIELDS {
+    for (i, kid) in kids.iter_mut().enumerate() {
         if i < count {
-            kids[i] = new_id(work, n, kids[i] as usize);
+            *kid = new_id(work, n, *kid as usize);
         }
-        i += 1;
     }
     Node {
         kind: node.kind,
@@ -78,11 +68,9 @@ pub(crate) fn write_nodes(nodes: &[u8], work: &[u32], n: usize, out: &mut [u8])
     requires { Writable nodes.now work.now out.old n }
     ensures { out.new ≡ flat node_bytes (map (λ p. renumber (new_id work.now n) (node_at nodes.now p)) (span work.now 0 n)) }
 {
-    let mut k = 0;
-    while k < n {
-        let node = record::node_at(nodes, work[k] as usize);
+    for (k, id) in work[..n].iter().enumerate() {
+        let node = record::node_at(nodes, *id as usize);
         record::put_node(out, k, renumbered(node, work, n));
-        k += 1;
     }
 }
 
@@ -93,10 +81,8 @@ pub(crate) fn write_roots(roots: &[u32], work: &[u32], n: usize, out: &mut [u32]
     requires by_index { (r : ℕ) → Memᴰ r roots.now → Placed work.now n r }
     ensures { out.new ≡ map (new_id work.now n) roots.now }
 {
-    let mut i = 0;
-    while i < roots.len() {
-        out[i] = new_id(work, n, roots[i] as usize);
-        i += 1;
+    for (i, root) in roots.iter().enumerate() {
+        out[i] = new_id(work, n, *root as usize);
     }
 }
 
@@ -107,10 +93,8 @@ pub(crate) fn write_ids(work: &[u32], n: usize, ids: &mut [u32])
     requires by_index { (p : ℕ) → p < n → 0 < get_or work.now (n + p) 0 }
     ensures { ids.new ≡ map (new_id work.now n) (run 0 n) }
 {
-    let mut p = 0;
-    while p < n {
-        ids[p] = new_id(work, n, p);
-        p += 1;
+    for (p, id) in ids.iter_mut().enumerate() {
+        *id = new_id(work, n, p);
     }
 }
 

@@ -3,17 +3,18 @@
 
 ghost use Rattle.std.specs.Prelude.{◌≡◌, not, ◌||◌, [], ◌∷◌, ◌+◌, ◌-◌, ◌*◌, ◌≤◌, leb, eqb, length, None, Some};
 ghost use Rattle.record.specs.Order.{before};
-ghost use Rattle.record.specs.Node.{size, node_at, nodes_of, bad, children};
+ghost use Rattle.record.specs.Node.{size, rank, node_at, nodes_of, bad, children};
 ghost use Rattle.forest.specs.Lists.{lowest, last_of};
 ghost use Rattle.forest.specs.Lent.{first};
-ghost use Rattle.forest.specs.Validate.{bad_record, forward as forward_of, fault as fault_of, node_faults, validate as validated};
+ghost use Rattle.forest.specs.Validate.{bad_record, forward as forward_of, node_faults, validate as validated};
 ghost use Rattle.forest.specs.Canonicalize.{disorders, canonicalize as canonicalized};
 ghost use Rattle.dense_order.specs.Found.{check_of};
+ghost use Rattle.dense_order.specs.Faults.{fault_at};
 ghost use Rattle.dense_order.specs.Kinds.{Blank};
 ghost use Rattle.dense_order.specs.Steps.{size_checks, forest_checks, Fitting, Answers};
 
 use forest::Reply;
-use record::Node;
+use record::{Class, Node};
 
 mod deliver;
 mod order;
@@ -25,26 +26,11 @@ pub const MOST: usize = 1073741823;
 // The words of work room that a node wants.
 pub const WORK_WORDS: usize = 16;
 
-// The kinds of externals and blocks, and the lowest of internals; so also their classes, in order.
-const EXTERNAL: u32 = 0;
-
-const BLOCK: u32 = 1;
-
-const INTERNAL: u32 = 2;
-
 // The lowest bad record of the whole ones: a part of a record at the end does not matter.
 pub fn first_bad(nodes: &[u8]) -> Option<usize>
     ensures { result ≡ lowest bad (nodes_of nodes.now) }
 {
-    let n = nodes.len() / record::SIZE;
-    let mut i = 0;
-    while i < n {
-        if record::bad(record::node_at(nodes, i)) {
-            return Some(i);
-        }
-        i += 1;
-    }
-    None
+    (0..nodes.len() / record::SIZE).find(|i| record::bad(record::node_at(nodes, *i)))
 }
 
 // The last child of a node that is at or above `low`.
@@ -52,24 +38,21 @@ pub fn last_from(n: Node, low: usize) -> Option<u32>
     ensures { result ≡ last_of (leb low) (children n) }
 {
     let kids = n.kids;
-    let mut left = record::FIELDS;
-    while 0 < left {
-        let i = left - 1;
+    for i in (0..record::FIELDS).rev() {
         let kid = kids[i];
         if (i < n.count as usize) & (low <= kid as usize) {
             return Some(kid);
         }
-        left -= 1;
     }
     None
 }
 
-// Whether record `i` is no external, or has a digest above that of the record before it.
-fn digest_rises(nodes: &[u8], i: usize, kind: u32) -> bool
+// Whether record `i`, of class `class`, is no external, or has a digest above that of the record before it.
+fn digest_rises(nodes: &[u8], i: usize, class: Class) -> bool
     requires { (1 ≤ i) × (size * i + size ≤ length nodes.now) }
-    ensures { result ≡ not (eqb kind 0) || before (node_at nodes.now (i - 1)).digest (node_at nodes.now i).digest }
+    ensures { result ≡ not (eqb (rank class) (rank Class.External)) || before (node_at nodes.now (i - 1)).digest (node_at nodes.now i).digest }
 {
-    if kind != EXTERNAL {
+    if class != Class::External {
         return true;
     }
     let previous_digest = record::digest_at(nodes, i - 1);
@@ -89,18 +72,20 @@ fn forward(nodes: &[u8], i: usize) -> Result<(), Reply>
     }
 }
 
-// Refuses record `i` for what is wrong with it first, after the record before it.
+// Refuses record `i` for what is wrong with it first, after the record before it, if there is one.
 fn fault(nodes: &[u8], i: usize) -> Result<(), Reply>
-    requires { (1 ≤ i) × (size * i + size ≤ length nodes.now) }
-    ensures { result ≡ check_of (fault_of i (node_at nodes.now (i - 1)) (node_at nodes.now i)) }
+    requires { size * i + size ≤ length nodes.now }
+    ensures { result ≡ check_of (fault_at nodes.now i) }
 {
-    let previous_kind = record::kind_at(nodes, i - 1);
-    let kind = record::kind_at(nodes, i);
-    // The kinds tell how the classes stand, but for two internals.
-    if (kind < INTERNAL) & (kind < previous_kind) {
+    if i == 0 {
+        return forward(nodes, i);
+    }
+    let previous = record::class_of(record::kind_at(nodes, i - 1));
+    let class = record::class_of(record::kind_at(nodes, i));
+    if class < previous {
         return Err(Reply::ClassOrder(i as u64));
     }
-    if !digest_rises(nodes, i, kind) {
+    if !digest_rises(nodes, i, class) {
         return Err(Reply::DigestOrder(i as u64));
     }
     forward(nodes, i)
@@ -110,12 +95,7 @@ fn fault(nodes: &[u8], i: usize) -> Result<(), Reply>
 fn validate_dense_node_order(nodes: &[u8]) -> Result<(), Reply>
     ensures { result ≡ check_of (first (node_faults (nodes_of nodes.now))) }
 {
-    let n = nodes.len() / record::SIZE;
-    if n == 0 {
-        return Ok(());
-    }
-    forward(nodes, 0)?;
-    for i in 1..n {
+    for i in 0..nodes.len() / record::SIZE {
         fault(nodes, i)?;
     }
     Ok(())
@@ -135,25 +115,13 @@ fn bad_first(nodes: &[u8], reply: Reply) -> Result<(), Reply>
 fn validate_records(nodes: &[u8]) -> Result<(), Reply>
     ensures { result ≡ check_of (first (bad_record nodes.now ∷ node_faults (nodes_of nodes.now))) }
 {
-    let n = nodes.len() / record::SIZE;
-    if n == 0 {
-        return Ok(());
-    }
-    if let Err(reply) = forward(nodes, 0) {
-        return bad_first(nodes, reply);
-    }
-    if record::bad(record::node_at(nodes, 0)) {
-        return Err(Reply::BadRecord(0));
-    }
-    let mut i = 1;
-    while i < n {
+    for i in 0..nodes.len() / record::SIZE {
         if record::bad(record::node_at(nodes, i)) {
             return Err(Reply::BadRecord(i as u64));
         }
         if let Err(reply) = fault(nodes, i) {
             return bad_first(nodes, reply);
         }
-        i += 1;
     }
     Ok(())
 }

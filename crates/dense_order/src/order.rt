@@ -5,11 +5,11 @@ ghost use Rattle.forest.specs.Order.{ready};
 ghost use Rattle.forest.specs.Lent.{work_words, most};
 ghost use Rattle.room.specs.Sections.{span};
 ghost use Rattle.ready.specs.Tree.{Tree};
-ghost use Rattle.dense_order.specs.Kinds.{Space, Kinds, Blank, Externals, Kept, Ordered};
+ghost use Rattle.dense_order.specs.Kinds.{Space, Members, Blank, Externals, Kept, Ordered};
 ghost use Rattle.dense_order.specs.State.{Fair, counts_at, ready_at, Standing, Resolved, Settles, Appends, Begun, Released, Enlisted, Links, Enlists, Fresh, Opened};
 
-use crate::{BLOCK, EXTERNAL, INTERNAL, deliver};
-use record::FIELDS;
+use crate::deliver;
+use record::{Class, FIELDS};
 
 // The sections of the work room, of n words each: the order from 0 on, the marks from n on, then these. The tree has two, the links one a
 // child field.
@@ -21,21 +21,18 @@ const READY: usize = 4;
 
 const LINKS: usize = 6;
 
-// Lists the ids of one kind from place `to` on; says how many they are.
-fn list_kind(nodes: &[u8], work: &mut [u32], n: usize, to: usize, kind: u32) -> usize
+// Lists the ids of one class from place `to` on; says how many they are.
+fn list_class(nodes: &[u8], work: &mut [u32], n: usize, to: usize, class: Class) -> usize
     requires { Space nodes.now work.old n to }
-    ensures { Kinds nodes.now work.old work.new to kind result }
+    ensures { Members nodes.now work.old work.new to class result }
 {
     let mut count = 0;
-    let mut p = 0;
-    while p < n {
-        if record::kind_at(nodes, p) != kind {
-            p += 1;
+    for p in 0..n {
+        if record::class_of(record::kind_at(nodes, p)) != class {
             continue;
         }
         work[to + count] = p as u32;
         count += 1;
-        p += 1;
     }
     count
 }
@@ -45,8 +42,9 @@ pub(crate) fn list_externals(nodes: &[u8], work: &mut [u32], n: usize) -> usize
     requires { Blank nodes.now work.old n }
     ensures { Externals nodes.now work.new n result }
 {
-    let count = list_kind(nodes, work, n, 0, EXTERNAL);
-    sorting::sort_by_digest(nodes, work, 0, count, HEADS * n);
+    let count = list_class(nodes, work, n, 0, Class::External);
+    let (front, spare) = work.split_at_mut(HEADS * n);
+    sorting::sort_by_digest(nodes, &mut front[..count], &mut spare[..count]);
     count
 }
 
@@ -85,10 +83,8 @@ fn settle_all(nodes: &[u8], work: &mut [u32], n: usize, filled: usize)
     requires { Standing nodes.now work.old n filled 0 }
     ensures { Settles nodes.now work.old work.new n filled filled }
 {
-    let mut t = 0;
-    while t < filled {
+    for t in 0..filled {
         settle(nodes, work, n, filled, t);
-        t += 1;
     }
 }
 
@@ -109,16 +105,13 @@ fn release(nodes: &[u8], work: &mut [u32], n: usize, begun: usize) -> usize
     requires { Begun nodes.now work.old n begun }
     ensures { Released nodes.now work.new n result }
 {
-    let mut filled = begun;
-    while filled < n {
-        let found = ready::lowest(work, READY * n, n);
-        let Some(p) = found else {
+    for filled in begun..n {
+        let Some(p) = ready::lowest(work, READY * n, n) else {
             return filled;
         };
         append(nodes, work, n, filled, p);
-        filled += 1;
     }
-    filled
+    n
 }
 
 // Links the mentions that p makes, each to the one before it that names the same child; says how many they are.
@@ -130,13 +123,11 @@ fn link_kids(nodes: &[u8], work: &mut [u32], n: usize, p: usize) -> u32
     let node = record::node_at(nodes, p);
     let kids = node.kids;
     let count = node.count as usize;
-    let mut j = 0;
-    while j < count {
+    for j in 0..count {
         let mention = FIELDS * p + j;
         let head = HEADS * n + kids[j] as usize;
         work[LINKS * n + mention] = work[head];
         work[head] = (mention + 1) as u32;
-        j += 1;
     }
     node.count
 }
@@ -148,9 +139,9 @@ fn enlist(nodes: &[u8], work: &mut [u32], n: usize, p: usize)
     ensures { Enlists nodes.now work.old work.new n p }
 {
     let count = link_kids(nodes, work, n, p);
-    let kind = record::kind_at(nodes, p);
+    let class = record::class_of(record::kind_at(nodes, p));
     work[COUNTS * n + p] = count;
-    if (kind < INTERNAL) | (0 < count) {
+    if (class != Class::Internal) | (0 < count) {
         return;
     }
     ready::put(work, READY * n, n, p);
@@ -161,10 +152,8 @@ fn enlist_all(nodes: &[u8], work: &mut [u32], n: usize, filled: usize)
     requires { Fresh nodes.now work.old n filled }
     ensures { Opened nodes.now work.new n filled }
 {
-    let mut p = 0;
-    while p < n {
+    for p in 0..n {
         enlist(nodes, work, n, p);
-        p += 1;
     }
 }
 
@@ -175,7 +164,7 @@ fn begin(nodes: &[u8], work: &mut [u32], n: usize, externals: usize) -> usize
     requires externals { Externals nodes.now work.old n externals }
     ensures { Begun nodes.now work.new n result }
 {
-    let blocks = list_kind(nodes, work, n, externals, BLOCK);
+    let blocks = list_class(nodes, work, n, externals, Class::Block);
     let filled = externals + blocks;
     enlist_all(nodes, work, n, filled);
     settle_all(nodes, work, n, filled);
@@ -197,11 +186,9 @@ pub(crate) fn keep_order(work: &mut [u32], n: usize)
     requires { (2 * n ≤ length work.old) × (n ≤ most) }
     ensures { Kept work.old work.new n n }
 {
-    let mut p = 0;
-    while p < n {
+    for p in 0..n {
         work[p] = p as u32;
         work[n + p] = (p + 1) as u32;
-        p += 1;
     }
 }
 

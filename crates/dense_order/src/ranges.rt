@@ -12,14 +12,7 @@ ghost use Rattle.sorting.specs.Promises.{Listed};
 pub(crate) fn far_root(roots: &[u32], n: usize) -> Option<usize>
     ensures { result ≡ lowest not (map (λ x. ltb x n) roots.now) }
 {
-    let mut i = 0;
-    while i < roots.len() {
-        if n <= roots[i] as usize {
-            return Some(i);
-        }
-        i += 1;
-    }
-    None
+    roots.iter().position(|root| n <= *root as usize)
 }
 
 // The first node with a child past the whole records, and its last such child: a part of a record at the end does not matter.
@@ -27,13 +20,11 @@ pub(crate) fn far_child(nodes: &[u8]) -> Option<(usize, u32)>
     ensures { result ≡ far_child (alone (nodes_of nodes.now) []) }
 {
     let n = nodes.len() / record::SIZE;
-    let mut i = 0;
-    while i < n {
+    for i in 0..n {
         let node = record::node_at(nodes, i);
         if let Some(child) = crate::last_from(node, n) {
             return Some((i, child));
         }
-        i += 1;
     }
     None
 }
@@ -44,15 +35,11 @@ pub(crate) fn repeated(nodes: &[u8], work: &[u32], count: usize) -> Option<usize
     requires listed { Listed nodes.now (span work.now 0 count) }
     ensures { result ≡ repeat (nodes_of nodes.now) (span work.now 0 count) }
 {
-    let mut i = 1;
-    while i < count {
-        let first = work[i - 1];
-        let second = work[i];
-        let digest = record::digest_at(nodes, first as usize);
-        if sorting::has_digest(nodes, digest, second) {
-            return Some(second as usize);
+    for pair in work[..count].windows(2) {
+        let digest = record::digest_at(nodes, pair[0] as usize);
+        if sorting::has_digest(nodes, digest, pair[1]) {
+            return Some(pair[1] as usize);
         }
-        i += 1;
     }
     None
 }

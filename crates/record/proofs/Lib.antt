@@ -7,3 +7,4 @@ pub mod Nodes
 pub mod Readings
 pub mod Puts
 pub mod Rules
+pub mod Classes

@@ -1,25 +1,14 @@
-use mathlib.Core.Path.{◌≡◌, ap, sym, ◌∙◌}
-use mathlib.Core.Bool.{true, false}
-use Rattle.record.specs.Node.{node_at, bad}
-use Rattle.dense_order.proofs.Lowest.{seeking_start, seeking_found, seeking_step, seeking_end}
+use Rattle.std.proofs.Common.{rules, tests, ◌≡◌, ◌/◌, refl, ◌∙◌, sym, arith, length, option_map}
+use Rattle.std.specs.List.{find, range_with_len}
+use Rattle.std.proofs.lemmas.Iterator.{YieldsList-from_range}
+use Rattle.std.proofs.lemmas.Iterator.Adapters.{option_map_id}
+use Rattle.std.proofs.lemmas.Iterator.Search.{find_from_yields_List}
+use Rattle.record.specs.Node.{size, node_at, bad}
+use Rattle.dense_order.proofs.Lowest.{find_lowest}
 use Rattle.dense_order.proofs.first_bad.Goals as goal
 
-pub loop-i-init : goal.loop-i-init
-loop-i-init c = seeking_start c.args.nodes.now
-
-pub returns-then-bad : goal.returns-then-bad
-returns-then-bad c =
-    let l = c.loop-i in
-    let s = c.args.nodes.now in
-    let e : bad (node_at s l.i) ≡ true = sym (ap bad c.node_at.ensures) ∙ sym c.bad.ensures ∙ c.if-bad.true in
-    seeking_found s l.i l.invariant c.loop-i-test.true e
-
-pub loop-i-preserved : goal.loop-i-preserved
-loop-i-preserved c =
-    let l = c.loop-i in
-    let s = c.args.nodes.now in
-    let e : bad (node_at s l.i) ≡ false = sym (ap bad c.node_at.ensures) ∙ sym c.bad.ensures ∙ c.if-bad.false in
-    seeking_step s l.i l.invariant c.loop-i-test.true e
-
 pub returns : goal.returns
-returns c = let l = c.loop-i in seeking_end c.args.nodes.now l.i l.invariant c.loop-i-test.false
+returns c =
+    let s = c.args.nodes.now in
+    let e : option_map (λ x. x) c.find.result ≡ find (λ i. bad (node_at s i)) (range_with_len 0 (length s / size)) = find_from_yields_List (λ i. bad (node_at s i)) _ _ c.find.result c.find.ensures.ran (YieldsList-from_range 0 (length s / size) (length s / size) refl (omega arith)) (λ x b q k. search (rules, tests)) in
+    sym (option_map_id _) ∙ e ∙ find_lowest bad s

@@ -1,11 +1,8 @@
 use Rattle.std.specs.Prelude.{Some, None}
-use mathlib.Core.List.{[]}
 use mathlib.Core.Path.{◌≡◌, sym, ◌∙◌}
 use native.Mathlib.Omega.{arith}
 use borrow.Author.Rules.{rules}
 use Rattle.record.specs.Node.{nodes_of}
-use Rattle.forest.specs.Canonicalize.{alone}
-use Rattle.forest.specs.Graph.{far_child}
 use Rattle.dense_order.proofs.Fairness.{fair}
 use Rattle.dense_order.proofs.Arranging.{refuses, duplicate, too_far, cyclic, passes, externals_numbered, one_repeats, none_repeats}
 use Rattle.dense_order.proofs.rearranged.Goals as goal

@@ -1,29 +1,16 @@
-use Rattle.std.specs.Prelude.{Ok, Err}
+use Rattle.std.specs.Prelude.{Err}
 use mathlib.Core.Path.{◌≡◌, sym, ◌∙◌}
-use native.Mathlib.Omega.{arith}
 use borrow.Author.Rules.{rules}
-use Rattle.dense_order.proofs.Faults.{none_ordered, first_refused, first_ordered, next_refused, next_ordered, all_ordered}
+use Rattle.dense_order.proofs.Faults.{ordered_start, next_refused, next_ordered, all_ordered}
 use Rattle.dense_order.proofs.validate_dense_node_order.Goals as goal
 
-pub returns-then-n-eq0 : goal.returns-then-n-eq0
-returns-then-n-eq0 c = none_ordered c.args.nodes.now (omega arith)
-
-pub returns-in_err-forward : goal.returns-in_err-forward
-returns-in_err-forward c =
-    let e : c.from_residual.result ≡ Err c.in_err-forward.field-0.0 = search rules in
-    e ∙ first_refused c.args.nodes.now (omega arith) _ (sym c.forward.ensures ∙ c.in_err-forward.was)
-
 pub loop-i-init : goal.loop-i-init
-loop-i-init c =
-    first_ordered c.args.nodes.now (omega arith) (sym c.forward.ensures ∙ c.in_ok-forward.was)
-
-pub fault-requires : goal.fault-requires
-fault-requires c = (c.loop-i.invariant.some, omega arith)
+loop-i-init c = ordered_start c.args.nodes.now
 
 pub returns-in_err-fault : goal.returns-in_err-fault
 returns-in_err-fault c =
     let l = c.loop-i in
-    let e : c.from_residual-in_err-fault.result ≡ Err c.in_err-fault.field-0.0 = search rules in
+    let e : c.from_residual.result ≡ Err c.in_err-fault.field-0.0 = search rules in
     e ∙ next_refused c.args.nodes.now l.i l.invariant c.loop-i-test.true _ (sym c.fault.ensures ∙ c.in_err-fault.was)
 
 pub loop-i-preserved : goal.loop-i-preserved
@@ -32,6 +19,4 @@ loop-i-preserved c =
     next_ordered c.args.nodes.now l.i l.invariant c.loop-i-test.true (sym c.fault.ensures ∙ c.in_ok-fault.was)
 
 pub returns : goal.returns
-returns c =
-    let l = c.loop-i in
-    all_ordered c.args.nodes.now l.i l.invariant c.loop-i-test.false
+returns c = let l = c.loop-i in all_ordered c.args.nodes.now l.i l.invariant c.loop-i-test.false

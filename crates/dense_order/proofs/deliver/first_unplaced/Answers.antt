@@ -1,15 +1,13 @@
-use borrow.Author.Tests.{eq-eqb, ne_eqb}
-use Rattle.dense_order.proofs.Marking.{failing_start, failing_found, failing_step, failing_end}
+use Rattle.std.proofs.Common.{rules, tests, ◌≡◌, ◌*◌, ◌-◌, eqb, take, drop, ◌∙◌}
+use Rattle.std.specs.List.{position}
+use Rattle.std.proofs.lemmas.Iterator.{YieldsList-from_slice}
+use Rattle.std.proofs.lemmas.Iterator.Search.{position_from_yields_List}
+use Rattle.dense_order.proofs.Lowest.{position_lowest}
+use Rattle.dense_order.proofs.Marking.{marks_lowest}
 use Rattle.dense_order.proofs.deliver.first_unplaced.Goals as goal
 
-pub loop-p-init : goal.loop-p-init
-loop-p-init c = failing_start
-
-pub returns-then-work-n-eq0 : goal.returns-then-work-n-eq0
-returns-then-work-n-eq0 c = rw (failing_found c.loop-p.invariant c.loop-p-test.true (eq-eqb _ _ c.if-work-n-eq0.true))
-
-pub loop-p-preserved : goal.loop-p-preserved
-loop-p-preserved c = failing_step c.loop-p.invariant c.loop-p-test.true (ne_eqb _ _ c.if-work-n-eq0.false)
-
 pub returns : goal.returns
-returns c = rw (failing_end c.loop-p.invariant c.loop-p-test.false)
+returns c =
+    let marks = take (2 * c.args.n - c.args.n) (drop c.args.n c.args.work.now) in
+    let e : c.position.result ≡ position (λ x. eqb x 0) marks = position_from_yields_List (λ x. eqb x 0) _ _ c.position.result c.position.ensures.ran (YieldsList-from_slice marks cc) (λ x b q k. search (rules, tests)) in
+    e ∙ position_lowest _ _ ∙ marks_lowest (λ x. eqb x 0) c.args.work.now c.args.n c.requires

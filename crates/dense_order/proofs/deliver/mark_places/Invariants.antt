@@ -1,9 +1,5 @@
-use Prim.Native.Nat.{◌-◌}
 use Rattle.dense_order.proofs.Marking.{Marking}
 use Rattle.dense_order.proofs.deliver.mark_places.Given as goal
 
 abbrev pub invariant-loop-k : goal.invariant-loop-k
-invariant-loop-k l = Marking l.initial.work l.work l.n l.filled l.k
-
-abbrev pub decreases-loop-k : goal.decreases-loop-k
-decreases-loop-k l = l.filled - l.k
+invariant-loop-k l = Marking l.id-items l.initial.marks l.marks l.n l.k

@@ -1,11 +1,6 @@
-use Prim.Native.Nat.{◌-◌}
-use Rattle.record.specs.Node.{fields}
 use Rattle.dense_order.specs.Marks.{new_id}
 use Rattle.dense_order.proofs.Filling.{Renumbering}
 use Rattle.dense_order.proofs.deliver.renumbered.Given as goal
 
 abbrev pub invariant-loop-i : goal.invariant-loop-i
-invariant-loop-i l = Renumbering (new_id l.work l.n) l.node l.kids l.i
-
-abbrev pub decreases-loop-i : goal.decreases-loop-i
-decreases-loop-i l = fields - l.i
+invariant-loop-i l = Renumbering (new_id l.work l.n) l.node l.kid-items l.i

@@ -1,4 +1,3 @@
-use Prim.Native.Nat.{◌-◌}
 use Rattle.record.specs.Lists.{run}
 use Rattle.dense_order.specs.Marks.{new_id}
 use Rattle.dense_order.proofs.Filling.{Filled}
@@ -6,6 +5,3 @@ use Rattle.dense_order.proofs.deliver.write_ids.Given as goal
 
 abbrev pub invariant-loop-p : goal.invariant-loop-p
 invariant-loop-p l = Filled (new_id l.work l.n) (run 0 l.n) l.initial.ids l.ids l.p
-
-abbrev pub decreases-loop-p : goal.decreases-loop-p
-decreases-loop-p l = l.n - l.p

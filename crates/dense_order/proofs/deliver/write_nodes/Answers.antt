@@ -1,21 +1,14 @@
 use Prim.Native.Nat.{◌<◌}
 use native.Mathlib.Omega.{arith}
-use lib.ListN.{get_or}
+use lib.ListN.{length-take}
 use Rattle.dense_order.proofs.Records.{moving_start, moving_below, moving_ready, moving_long, moving_step, moving_end}
 use Rattle.dense_order.proofs.deliver.write_nodes.Goals as goal
-use Rattle.dense_order.proofs.deliver.write_nodes.Goals.{After-shared_slice_known-in-loop-k-1}
-
-below : (c : After-shared_slice_known-in-loop-k-1) → get_or c.args.work.now c.loop-k.k 0 < c.args.n
-below c = moving_below c.requires c.loop-k-test.true
 
 pub loop-k-init : goal.loop-k-init
 loop-k-init c = moving_start c.requires
 
-pub overflow_cast-work : goal.overflow_cast-work
-overflow_cast-work c = omega (arith, below (goal.at.overflow_cast-work c).After-shared_slice_known-in-loop-k-1)
-
 pub node_at-node-requires : goal.node_at-node-requires
-node_at-node-requires c = omega (arith, below (goal.at.node_at-node-requires c).After-shared_slice_known-in-loop-k-1)
+node_at-node-requires c = let r = c.requires.records in omega (arith, moving_below c.requires c.loop-k-test.true)
 
 pub renumbered-requires : goal.renumbered-requires
 renumbered-requires c =
@@ -23,7 +16,7 @@ renumbered-requires c =
     record { count_le_fields = m.0; n_in_bounds = m.1.0; by_index = m.1.1 }
 
 pub put_node-requires : goal.put_node-requires
-put_node-requires c = omega (arith, moving_long c.requires c.loop-k.invariant)
+put_node-requires c = let r = c.requires.room in omega (arith, length-take c.args.n c.args.work.now, moving_long c.requires c.loop-k.invariant)
 
 pub loop-k-preserved : goal.loop-k-preserved
 loop-k-preserved c =

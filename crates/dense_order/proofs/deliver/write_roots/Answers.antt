@@ -1,22 +1,13 @@
 use native.Mathlib.Omega.{arith}
-use lib.ListN.{get_or}
 use Rattle.claims.specs.Searches.{get_d_mem}
-use Rattle.dense_order.specs.Marks.{Placed}
 use Rattle.dense_order.proofs.Filling.{filled_start, filled_long, filled_step, filled_end}
 use Rattle.dense_order.proofs.deliver.write_roots.Goals as goal
-use Rattle.dense_order.proofs.deliver.write_roots.Goals.{After-shared_slice_known-in-loop-i-1}
-
-placed : (c : After-shared_slice_known-in-loop-i-1) → Placed c.args.work.now c.args.n (get_or c.args.roots.now c.loop-i.i 0)
-placed c = c.requires.by_index _ (get_d_mem c.args.roots.now c.loop-i.i 0 c.loop-i-test.true)
 
 pub loop-i-init : goal.loop-i-init
 loop-i-init c = filled_start _ _ _ c.requires.out_len
 
-pub overflow_cast-roots : goal.overflow_cast-roots
-overflow_cast-roots c = omega (arith, (placed (goal.at.overflow_cast-roots c).After-shared_slice_known-in-loop-i-1).0)
-
 pub new_id-requires : goal.new_id-requires
-new_id-requires c = record { n_in_bounds = c.requires.n_in_bounds; placed = placed (goal.at.new_id-requires c).After-shared_slice_known-in-loop-i-1 }
+new_id-requires c = record { n_in_bounds = c.requires.n_in_bounds; placed = c.requires.by_index _ (get_d_mem c.args.roots.now c.loop-i.i 0 c.loop-i-test.true) }
 
 pub bounds-out-i : goal.bounds-out-i
 bounds-out-i c = omega (arith, filled_long c.loop-i.invariant)

@@ -1,12 +1,25 @@
-use mathlib.Core.Path.{◌∙◌}
+use mathlib.Core.Path.{◌≡◌, ap, ◌∙◌}
+use mathlib.Core.Bool.{not}
 use lib.ListN.{length-set}
+use Rattle.record.specs.Node.{class, is_internal, node_at}
+use Rattle.record.specs.declared.Class.TheVariants.{Internal}
+use Rattle.record.proofs.Classes.{class_eq, class_read}
 use Rattle.dense_order.proofs.Opening.{enlists_plain, enlists_ready, tree_counted, test_plain, test_ready}
 use Rattle.dense_order.proofs.order.enlist.Goals as goal
+use Rattle.dense_order.proofs.order.enlist.Goals.{After-ne}
 
-pub returns-then-kind-count : goal.returns-then-kind-count
-returns-then-kind-count c =
+-- what the code compares
+compared : (c : After-ne) → c.ne.result ≡ not (is_internal (node_at c.args.nodes.now c.args.p))
+unfolding is_internal
+compared c =
+    let n = node_at c.args.nodes.now c.args.p in
+    let e : c.class_of-class.result ≡ class n = class_read n c.kind_at.ensures c.class_of-class.ensures in
+    c.ne.ensures ∙ ap not (class_eq c.class_of-class.result Internal ∙ rw e)
+
+pub returns-then-ne-count : goal.returns-then-ne-count
+returns-then-ne-count c =
     let l = c.link_kids-count in
-    enlists_plain c.requires.enlisted c.requires.p_lt_n l.ensures l.auto.work (test_plain c.requires.enlisted c.requires.p_lt_n l.ensures l.auto.work _ c.kind_at-kind.ensures c.if-kind-count.true)
+    enlists_plain c.requires.enlisted c.requires.p_lt_n l.ensures l.auto.work (test_plain c.requires.enlisted c.requires.p_lt_n l.ensures l.auto.work _ (compared (goal.at.returns-then-ne-count c).After-ne) c.if-ne-count.true)
 
 pub put-requires : goal.put-requires
 put-requires c =
@@ -19,4 +32,4 @@ shape_of-work c = c.put.auto.work ∙ simp length-set c.link_kids-count.auto.wor
 pub returns : goal.returns
 returns c =
     let l = c.link_kids-count in
-    enlists_ready c.requires.enlisted c.requires.p_lt_n l.ensures l.auto.work _ (test_ready c.requires.enlisted c.requires.p_lt_n l.ensures l.auto.work _ c.kind_at-kind.ensures c.if-kind-count.false) c.put.auto.work c.put.ensures
+    enlists_ready c.requires.enlisted c.requires.p_lt_n l.ensures l.auto.work _ (test_ready c.requires.enlisted c.requires.p_lt_n l.ensures l.auto.work _ (compared (goal.at.returns c).After-ne) c.if-ne-count.false) c.put.auto.work c.put.ensures

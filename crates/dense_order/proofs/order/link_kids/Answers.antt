@@ -77,9 +77,6 @@ bounds-work-head-in-loop-j c =
     let x = facts (goal.at.bounds-work-head-in-loop-j c).In-loop-j in
     simp length-set (omega (arith, x.few, x.node, x.narrow, x.child, x.room))
 
-pub overflow_add-j : goal.overflow_add-j
-overflow_add-j c = let x = facts (goal.at.overflow_add-j c).In-loop-j in omega (arith, x.few, x.node, x.narrow, x.child, x.room)
-
 pub loop-j-preserved : goal.loop-j-preserved
 loop-j-preserved c = field_linked c.requires.enlisted c.requires.p_lt_n c.node_at-node.ensures c.loop-j.invariant c.loop-j-test.true
 

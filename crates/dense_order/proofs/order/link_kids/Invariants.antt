@@ -1,9 +1,5 @@
-use Prim.Native.Nat.{◌-◌}
 use Rattle.dense_order.proofs.Enlisting.{Chaining}
 use Rattle.dense_order.proofs.order.link_kids.Given as goal
 
 abbrev pub invariant-loop-j : goal.invariant-loop-j
 invariant-loop-j l = Chaining l.nodes l.initial.work l.work l.n l.p l.j
-
-abbrev pub decreases-loop-j : goal.decreases-loop-j
-decreases-loop-j l = l.count - l.j

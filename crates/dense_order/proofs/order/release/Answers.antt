@@ -1,4 +1,4 @@
-use mathlib.Core.Path.{refl, ◌∙◌, sym}
+use mathlib.Core.Path.{◌≡◌, refl, ◌∙◌, sym}
 use native.Mathlib.Omega.{arith}
 use borrow.Author.Rules.{rules}
 use Rattle.dense_order.proofs.Releasing.{releasing_start, releasing_step, releasing_none, releasing_full, found_below, found_ready}
@@ -10,29 +10,31 @@ loop-filled-init c = (refl, releasing_start c.requires)
 pub overflow_mul-n : goal.overflow_mul-n
 overflow_mul-n c = let x = c.loop-filled.invariant.1.standing.stands in omega (arith, x.fair.few)
 
-pub lowest-found-requires : goal.lowest-found-requires
-lowest-found-requires c = record { le_n = omega arith; tree = c.loop-filled.invariant.1.standing.stands.counts.tree }
+pub lowest-requires : goal.lowest-requires
+lowest-requires c = record { le_n = omega arith; tree = c.loop-filled.invariant.1.standing.stands.counts.tree }
 
 pub shape_of-work-in_default : goal.shape_of-work-in_default
 shape_of-work-in_default c = c.loop-filled.invariant.0
 
 pub returns-in_default : goal.returns-in_default
-returns-in_default c = releasing_none c.loop-filled.invariant.1 (sym c.lowest-found.ensures ∙ (search rules))
+returns-in_default c = releasing_none c.loop-filled.invariant.1 (sym c.lowest.ensures ∙ (search rules))
 
 pub append-requires : goal.append-requires
 append-requires c =
     let l = c.loop-filled.invariant.1 in
-    let e = (sym c.lowest-found.ensures ∙ (search rules)) in
+    let e = (sym c.lowest.ensures ∙ (search rules)) in
     record { standing = l.standing; p_lt_n = (found_below l e, c.loop-filled-test.true); p_value = found_ready l e }
 
 pub loop-filled-preserved : goal.loop-filled-preserved
 loop-filled-preserved c =
     let l = c.loop-filled.invariant in
     let a = c.append in
-    (a.auto.work ∙ l.0, releasing_step l.1 (sym c.lowest-found.ensures ∙ (search rules)) c.loop-filled-test.true a.ensures)
+    (a.auto.work ∙ l.0, releasing_step l.1 (sym c.lowest.ensures ∙ (search rules)) c.loop-filled-test.true a.ensures)
 
 pub shape_of-work : goal.shape_of-work
 shape_of-work c = c.loop-filled.invariant.0
 
 pub returns : goal.returns
-returns c = releasing_full c.loop-filled.invariant.1 c.loop-filled-test.false
+returns c =
+    let z : c.loop-filled.filled ≡ c.args.n = (let e = c.requires.standing.some in omega arith) in
+    rw z at (releasing_full c.loop-filled.invariant.1 c.loop-filled-test.false)

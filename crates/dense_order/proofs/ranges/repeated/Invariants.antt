@@ -1,9 +1,7 @@
-use Prim.Native.Nat.{◌-◌, ◌<◌}
+use mathlib.Core.Path.{◌≡◌}
+use Rattle.room.specs.Sections.{span}
 use Rattle.dense_order.proofs.Repeats.{Unlike}
 use Rattle.dense_order.proofs.ranges.repeated.Given as goal
 
-abbrev pub invariant-loop-i : goal.invariant-loop-i
-invariant-loop-i l = (0 < l.i) × Unlike l.nodes l.work l.count l.i
-
-abbrev pub decreases-loop-i : goal.decreases-loop-i
-decreases-loop-i l = l.count - l.i
+abbrev pub invariant-loop-pair : goal.invariant-loop-pair
+invariant-loop-pair l = (l.pair-iterator.size ≡ 2) × Unlike l.nodes (span l.work 0 l.count) l.pair-iterator.rest.now

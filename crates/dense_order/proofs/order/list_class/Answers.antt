@@ -1,9 +1,10 @@
 use mathlib.Core.Path.{sym, ◌∙◌}
 use native.Mathlib.Omega.{arith}
-use borrow.Author.Tests.{eq-eqb, ne_eqb}
+use Rattle.record.specs.Node.{node_at}
+use Rattle.record.proofs.Classes.{class_read, class_other, class_same}
 use Rattle.sorting.proofs.Keeping.{keeping_start, numbers_past, numbers_on}
 use Rattle.dense_order.proofs.Gathering.{gathered}
-use Rattle.dense_order.proofs.order.list_kind.Goals as goal
+use Rattle.dense_order.proofs.order.list_class.Goals as goal
 
 pub loop-p-init : goal.loop-p-init
 loop-p-init c = keeping_start _ _ _ _
@@ -11,14 +12,8 @@ loop-p-init c = keeping_start _ _ _ _
 pub kind_at-requires : goal.kind_at-requires
 kind_at-requires c = let z = c.requires.counted in omega arith
 
-pub overflow_add-p : goal.overflow_add-p
-overflow_add-p c =
-    let a = c.requires in
-    let m = c.loop-p.invariant in
-    omega (arith, a.few, a.fits, m.some, m.within, m.long)
-
-pub loop-p-preserved-then-kind_at-kind : goal.loop-p-preserved-then-kind_at-kind
-loop-p-preserved-then-kind_at-kind c = numbers_past c.loop-p.invariant c.loop-p-test.true (ne_eqb _ _ (λ e. c.if-kind_at-kind.true (c.kind_at.ensures ∙ e)))
+pub loop-p-preserved-then-ne : goal.loop-p-preserved-then-ne
+loop-p-preserved-then-ne c = numbers_past c.loop-p.invariant c.loop-p-test.true (rw (← class_read (node_at c.args.nodes.now c.loop-p.p) c.kind_at.ensures c.class_of.ensures) (class_other _ _ (sym c.ne.ensures ∙ c.if-ne.true)))
 
 pub overflow_cast-work : goal.overflow_cast-work
 overflow_cast-work c =
@@ -50,14 +45,8 @@ overflow_add-count c =
     let m = c.loop-p.invariant in
     omega (arith, a.few, a.fits, m.some, m.within, m.long)
 
-pub overflow_add-p-in-loop-p : goal.overflow_add-p-in-loop-p
-overflow_add-p-in-loop-p c =
-    let a = c.requires in
-    let m = c.loop-p.invariant in
-    omega (arith, a.few, a.fits, m.some, m.within, m.long)
-
 pub loop-p-preserved : goal.loop-p-preserved
-loop-p-preserved c = numbers_on c.loop-p.invariant c.loop-p-test.true c.requires.fits (eq-eqb _ _ (sym c.kind_at.ensures ∙ c.if-kind_at-kind.false))
+loop-p-preserved c = numbers_on c.loop-p.invariant c.loop-p-test.true c.requires.fits (rw (← class_read (node_at c.args.nodes.now c.loop-p.p) c.kind_at.ensures c.class_of.ensures) (class_same _ _ (sym c.ne.ensures ∙ c.if-ne.false)))
 
 pub shape_of-work : goal.shape_of-work
 shape_of-work c = c.loop-p.invariant.long
