@@ -9,7 +9,7 @@ use native.Mathlib.Omega.{arith}
 use native.Mathlib.Decide.{dec_lt}
 use lib.Dec.{eqb}
 use borrow.Author.Tests.{eqb-true, eq-eqb, ne_eqb}
-use lib.ListN.{length, get_or, get_or-replicate}
+use lib.ListN.{length, take, drop, get_or, get_or-replicate, length-append, length-take, length-replicate, replicate}
 use Rattle.room.proofs.Spans.{span_length, span_at, span_same, span_join}
 use Rattle.record.specs.Lists.{run}
 use Rattle.record.specs.Node.{rank, class, node_at, nodes_of}
@@ -27,8 +27,9 @@ use Rattle.claims.specs.Releases.{begun_distinct, begun_in, length_order}
 use Rattle.claims.specs.Searches.{has_in, in_has, lowest_none, lowest_lt, lowest_agree, get_d_mem}
 use Rattle.room.specs.Sections.{span, Out}
 use Rattle.room.proofs.Spans.{span_length, span_at, span_join, span_same}
-use Rattle.sorting.specs.Promises.{Room, Sorts}
+use Rattle.sorting.specs.Promises.{Spared}
 use Rattle.sorting.specs.Digests.{less}
+use Rattle.sorting.proofs.Callers.{Both, both_fronts, front_span}
 use Rattle.sorting.proofs.Uses.{kept_listed}
 use Rattle.dense_order.specs.Kinds.{Ordered, of_class, Space, Members, Blank, Externals}
 use Rattle.dense_order.specs.Marks.{mark_of, Unmarked, Marked}
@@ -40,18 +41,40 @@ use Rattle.dense_order.proofs.Gathering.{externals_class, blocks_class}
 pub space_blank : {s w : List ℕ} {n : ℕ} → Blank s w n → Space s w n 0
 space_blank a = record { counted = a.counted; few = a.few; fits = let z = a.room in omega arith }
 
-pub room_sort : {s w w₁ : List ℕ} {n r : ℕ} → Blank s w n → length w₁ ≡ length w → Members s w w₁ 0 External r → Room s w₁ 0 r (heads_at n)
-unfolding of_class
-room_sort {s} {w} {w₁} {n} {r} a l k =
-    let z = a.room in
-    let y = k.few in
-    let x = a.counted in
-    record { fits = omega arith; spared = omega arith; apart = omega arith; listed = rw k.puts.put (kept_listed s (λ p. eqb (rank (class (node_at s p))) (rank External))) }
+-- the room w₁ in two parts, of which the first begins with the listed externals
+module _ {s w w₁ : List ℕ} {n r : ℕ} (a b : List ℕ) (blank : Blank s w n) (l : length w₁ ≡ length w) (k : Members s w w₁ 0 External r) (e : w₁ ≡ a ++ b) (f : length a ≡ heads_at n) where
+  some_listed : r ≤ n
+  some_listed = let y = k.few in let x = blank.counted in omega arith
 
-pub externals_listed : {s w w₁ w₂ : List ℕ} {n r : ℕ} → Blank s w n → length w₁ ≡ length w → length w₂ ≡ length w₁ → Members s w w₁ 0 External r → Sorts (less s) w₁ w₂ 0 r (heads_at n) → Externals s w₂ n r
-externals_listed {s} {w} {w₁} {w₂} {n} {r} a l m k t = record {
+  longer : r ≤ length b
+  longer = let z = blank.room in let y = some_listed in let q = ap length e in omega (arith, length-append a b)
+
+  list_is : take r a ≡ span w₁ 0 r
+  list_is = let y = some_listed in rw e (front_span a b r (omega arith))
+
+  pub spared_externals : Spared s (take r a) (take r b)
+  unfolding of_class
+  spared_externals =
+      let z : 0 + r ≡ r = omega arith in
+      let y = some_listed in
+      record {
+        listed = rw (list_is, rw z at k.puts.put) (kept_listed s (λ p. eqb (rank (class (node_at s p))) (rank External)));
+        as_long = simp length-take (omega (arith, longer));
+      }
+
+  pub sorted_externals : {x v : List ℕ} → x ≡ sort (less s) (take r a) → v ≡ replicate (length (take r b)) 0 → length x ≡ length (take r a) → Both (sort (less s) (span w₁ 0 r)) (replicate r 0) w₁ ((x ++ drop r a) ++ (v ++ drop r b)) 0 r (heads_at n) r
+  sorted_externals {x} {v} p q g =
+      let y = some_listed in
+      let u : length (take r b) ≡ r = simp length-take (omega (arith, longer)) in
+      let i : length (take r a) ≡ r = simp length-take (omega arith) in
+      let m : v ≡ replicate r 0 = q ∙ ap (λ (c : ℕ). replicate c 0) u in
+      let o : x ≡ sort (less s) (span w₁ 0 r) = p ∙ ap (sort (less s)) list_is in
+      rw (← o, ← m) (both_fronts a b r (heads_at n) e f (g ∙ i) (ap length m ∙ length-replicate r 0) (omega arith) longer)
+
+pub externals_listed : {s w w₁ w₂ : List ℕ} {n r : ℕ} → Blank s w n → Members s w w₁ 0 External r → Both (sort (less s) (span w₁ 0 r)) (replicate r 0) w₁ w₂ 0 r (heads_at n) r → Externals s w₂ n r
+externals_listed {s} {w} {w₁} {w₂} {n} {r} a k t = record {
   some = let y = k.few in let x = a.counted in omega arith;
-  first = (let z : 0 + r ≡ r = omega arith in let q = t.sorted in rw z at q) ∙ (ap (sort (less s)) (let z : 0 + r ≡ r = omega arith in let q = k.puts.put in rw z at q) ∙ sym (externals_class s));
+  first = (let z : 0 + r ≡ r = omega arith in let q = t.first in rw z at q) ∙ (ap (sort (less s)) (let z : 0 + r ≡ r = omega arith in let q = k.puts.put in rw z at q) ∙ sym (externals_class s));
   zeros = λ y h. zero_at y h (dec_lt y (heads_at n)) (dec_lt y (heads_at n + r));
 }
   where
@@ -62,7 +85,7 @@ externals_listed {s} {w} {w₁} {w₂} {n} {r} a l m k t = record {
     spare y u v =
         let i : heads_at n + (y - heads_at n) ≡ y = omega arith in
         let e : get_or (span w₂ (heads_at n) (heads_at n + r)) (y - heads_at n) 0 ≡ get_or w₂ (heads_at n + (y - heads_at n)) 0 = span_at w₂ (heads_at n) (heads_at n + r) (y - heads_at n) (omega arith) in
-        ap (λ j. get_or w₂ j 0) (sym i) ∙ (sym e ∙ (ap (λ b. get_or b (y - heads_at n) 0) t.spared_zero ∙ get_or-replicate r (y - heads_at n) 0 0 (omega arith)))
+        ap (λ j. get_or w₂ j 0) (sym i) ∙ (sym e ∙ (ap (λ b. get_or b (y - heads_at n) 0) t.second ∙ get_or-replicate r (y - heads_at n) 0 0 (omega arith)))
 
     zero_at : (y : ℕ) → r ≤ y → Dec (y < heads_at n) → Dec (y < heads_at n + r) → get_or w₂ y 0 ≡ 0
     zero_at y h (yes u) v = old y h (λ z. omega arith)
