@@ -20,7 +20,7 @@ use Rattle.claims.specs.Distinct.{Distinct, fresh}
 use Rattle.claims.specs.Searches.{none_lowest, lowest_at, get_d_mem}
 use Rattle.claims.specs.Sorts.{run_in}
 use Rattle.room.specs.Sections.{span}
-use Rattle.room.proofs.Spans.{span_length, span_at, span_empty, span_next, span_join, span_last}
+use Rattle.room.proofs.Spans.{span_length, span_at}
 use Rattle.dense_order.specs.Marks.{mark_of, Unmarked, Marked}
 
 -- ONE MORE ID -------------------------------------------------------------------------------------

@@ -89,11 +89,12 @@ mapped_kept {s} {w} {w'} {n} {g} l r m = record {
 
 pub charted_kept : {s w w' : List ℕ} {n h : ℕ} {g : List Node} → length w' ≡ length w → ((y : ℕ) → bases_at n ≤ y → get_or w' y 0 ≡ get_or w y 0) → Charted s w n h g → Charted s w' n h g
 charted_kept {s} {w} {w'} {n} {h} {g} l r c =
-    let e : span w' (holders_at n) (holders_at n + h) ≡ span w (holders_at n) (holders_at n + h) = span_same w' w (holders_at n) (holders_at n + h) l c.held.shelf.fits (λ p a b. r p (omega arith)) in
+    let e : span w' (holders_at n) (holders_at n + h) ≡ span w (holders_at n) (holders_at n + h) = span_same w' w (holders_at n) (holders_at n + h) l c.held.fits (λ p a b. r p (omega arith)) in
     record {
       mapped = mapped_kept l r c.mapped;
       held = record {
-        shelf = record { fits = rw l c.held.shelf.fits; listed = rw e c.held.shelf.listed; ordered = rw e c.held.shelf.ordered };
+        fits = rw l c.held.fits;
+        shelf = record { listed = rw e c.held.shelf.listed; ordered = rw e c.held.shelf.ordered };
         last = rw e c.held.last;
       };
       same = c.same;

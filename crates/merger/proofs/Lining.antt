@@ -1,18 +1,20 @@
 -- Laws of putting the sources into their canonical order: each class listed behind the one before, the externals sorted.
 -- Assumes nothing.
 use Prim.Native.Nat.{ℕ, ◌+◌, ◌-◌, ◌<◌, ◌≤◌}
-use mathlib.Core.Path.{◌≡◌, refl, ◌∙◌, ap}
-use mathlib.Core.List.{List, [], ◌∷◌}
+use mathlib.Core.Path.{◌≡◌, refl, sym, ◌∙◌, ap}
+use mathlib.Core.List.{List, [], ◌∷◌, ◌++◌}
 use mathlib.Core.Logic.{◌⊎◌, inl, inr}
 use mathlib.Core.Bool.{true}
 use native.Mathlib.Omega.{arith}
-use lib.ListN.{length, get_or}
+use borrow.Rule.Slice.PartMut.{put_mid}
+use lib.ListN.{length, take, drop, get_or, replicate, length-append, length-take, length-drop, length-replicate}
 use Rattle.record.specs.Node.{node_at, is_external, is_block, is_internal}
 use Rattle.record.proofs.Nodes.{classes, rank_external, rank_block, rank_internal}
 use Rattle.forest.specs.Lists.{keep, sort}
 use Rattle.room.specs.Sections.{span}
 use Rattle.room.proofs.Spans.{span_length, span_join, span_same}
-use Rattle.sorting.specs.Promises.{Listed, Room, Sorts}
+use Rattle.sorting.specs.Promises.{Listed, Spared}
+use Rattle.sorting.proofs.Callers.{Both, both_mid, both_swap, back_span}
 use Rattle.sorting.specs.Digests.{less}
 use Rattle.sorting.proofs.Elements.{places_all}
 use Rattle.sorting.proofs.SortLaws.{all_keep}
@@ -58,14 +60,34 @@ module _ {s w : List ℕ} {n m : ℕ} (a : Sourced s w n m) where
       all_keep _ (places_all w (sources_at n) (sources_at n + m) (omega arith) (λ k x y. let z : sources_at n + (k - sources_at n) ≡ k = omega arith in let b : get_or w k 0 < n = rw z at (a.below (k - sources_at n) (omega arith)) in let e = a.roomy.counted in omega arith))
 
   module _ {w₁ : List ℕ} {e : ℕ} (l₁ : length w₁ ≡ length w) (one : Classed s w w₁ n m (order_at n) 0 e) where
-    pub sort_room : Room s w₁ (order_at n) e (spare_at n)
-    sort_room =
-        let f = a.roomy.room in
-        let g = a.some in
-        let h = one.few in
-        record { fits = omega arith; spared = omega arith; apart = omega arith; listed = rw one.puts.put (sources_listed 0) }
+    -- the room in two parts, of which the second begins with the order
+    module _ (x y : List ℕ) (i : w₁ ≡ x ++ y) (k : length x ≡ order_at n) where
+      longer : e ≤ length y
+      longer = let f = a.roomy.room in let g = a.some in let h = one.few in let q = ap length i in omega (arith, length-append x y)
 
-    module _ {w₂ : List ℕ} (l₂ : length w₂ ≡ length w₁) (two : Sorts (less s) w₁ w₂ (order_at n) e (spare_at n)) where
+      list_is : take e y ≡ span w₁ (order_at n) (order_at n + e)
+      list_is = rw i (back_span x y e (order_at n) k longer)
+
+      spare_long : length (take (spare_at n + e - spare_at n) (drop (spare_at n) x)) ≡ e
+      spare_long = let g = a.some in let h = one.few in simp (length-take, length-drop) (omega arith)
+
+      pub sort_room : Spared s (take e y) (take (spare_at n + e - spare_at n) (drop (spare_at n) x))
+      sort_room = record { listed = rw (list_is, one.puts.put) (sources_listed 0); as_long = (let u : length (take e y) ≡ e = simp length-take (omega (arith, longer)) in spare_long ∙ sym u) }
+
+      pub sorted_room : {u v : List ℕ} → u ≡ sort (less s) (take e y) → v ≡ replicate (length (take (spare_at n + e - spare_at n) (drop (spare_at n) x))) 0 → length u ≡ length (take e y)
+          → Both (sort (less s) (span w₁ (order_at n) (order_at n + e))) (replicate e 0) w₁ (put_mid (spare_at n) (spare_at n + e - spare_at n) x v ++ (u ++ drop e y)) (order_at n) e (spare_at n) e
+      sorted_room {u} {v} p q z =
+          let g = a.some in
+          let h = one.few in
+          let c : length (take e y) ≡ e = simp length-take (omega (arith, longer)) in
+          let m : v ≡ replicate e 0 = q ∙ ap (λ (d : ℕ). replicate d 0) spare_long in
+          let o : u ≡ sort (less s) (span w₁ (order_at n) (order_at n + e)) = p ∙ ap (sort (less s)) list_is in
+          rw (← o, ← m) (both_swap (both_mid x y (spare_at n) e (order_at n) i k (ap length m ∙ length-replicate e 0) (z ∙ c) (omega arith) longer))
+
+    module _ {w₂ : List ℕ} (two : Both (sort (less s) (span w₁ (order_at n) (order_at n + e))) (replicate e 0) w₁ w₂ (order_at n) e (spare_at n) e) where
+      l₂ : length w₂ ≡ length w₁
+      l₂ = two.long
+
       same₂ : (y : ℕ) → y < bases_at n → get_or w₂ y 0 ≡ get_or w y 0
       same₂ y h = two.rest y (λ z. omega arith) (λ z. omega arith) ∙ one.puts.rest y (λ z. omega arith)
 
@@ -104,7 +126,7 @@ module _ {s w : List ℕ} {n m : ℕ} (a : Sourced s w n m) where
               let g = a.some in
               let k = counts in
               span_same w₄ w₂ (order_at n) (order_at n + e) (l₄ ∙ l₃) (omega arith) (λ p x y. four.puts.rest p (λ z. omega arith) ∙ three.puts.rest p (λ z. omega arith))
-              ∙ (two.sorted ∙ ap (sort (less s)) one.puts.put)
+              ∙ (two.first ∙ ap (sort (less s)) one.puts.put)
 
           blocks_there : span w₄ (order_at n + e) (order_at n + e + b) ≡ classed s 1 (sources w n m)
           blocks_there =

@@ -33,6 +33,7 @@ pub record Mapped (s w : List ℕ) (n : ℕ) (g : List Node) : Type 0 where
 
 -- the h non-externals stand by digest, so that the last of a digest is the replacement
 pub record Held (s w : List ℕ) (n h : ℕ) : Type 0 where
+  pub fits : holders_at n + h ≤ length w
   pub shelf : Shelf s (span w (holders_at n) (holders_at n + h))
   pub last : (d : List ℕ) → last_of (holds s d) (span w (holders_at n) (holders_at n + h)) ≡ replacement (nodes_of s) d
 

@@ -37,7 +37,11 @@ pub(crate) fn sort_holders(nodes: &[u8], work: &mut [u32], n: usize) -> usize
     let count = list_holders(nodes, work, n);
     let (front, spare) = work.split_at_mut(SPARE * n);
     let holders = HOLDERS * n;
-    sorting::sort_by_digest(nodes, &mut front[holders..holders + count], &mut spare[..count]);
+    sorting::sort_by_digest(
+        nodes,
+        &mut front[holders..holders + count],
+        &mut spare[..count],
+    );
     count
 }
 

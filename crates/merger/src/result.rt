@@ -49,7 +49,11 @@ fn arrange(nodes: &[u8], work: &mut [u32], n: usize, m: usize)
     let externals = list_class(nodes, work, n, m, ORDER * n, EXTERNAL);
     let (front, order) = work.split_at_mut(ORDER * n);
     let spare = SPARE * n;
-    sorting::sort_by_digest(nodes, &mut order[..externals], &mut front[spare..spare + externals]);
+    sorting::sort_by_digest(
+        nodes,
+        &mut order[..externals],
+        &mut front[spare..spare + externals],
+    );
     let blocks = list_class(nodes, work, n, m, ORDER * n + externals, BLOCK);
     list_class(nodes, work, n, m, ORDER * n + externals + blocks, INTERNAL);
 }

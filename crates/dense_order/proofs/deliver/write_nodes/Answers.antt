@@ -1,4 +1,3 @@
-use Prim.Native.Nat.{◌<◌}
 use native.Mathlib.Omega.{arith}
 use lib.ListN.{length-take}
 use Rattle.dense_order.proofs.Records.{moving_start, moving_below, moving_ready, moving_long, moving_step, moving_end}

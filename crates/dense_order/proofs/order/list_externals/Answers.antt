@@ -1,4 +1,3 @@
-use native.Mathlib.Omega.{arith}
 use Rattle.dense_order.proofs.Finishing.{space_blank, spared_externals, sorted_externals, externals_listed}
 use Rattle.dense_order.proofs.order.list_externals.Goals as goal
 
