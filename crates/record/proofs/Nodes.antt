@@ -128,15 +128,10 @@ bad_renumber f n l e = rw (drop_at (map f (take n.count n.kids)) (drop n.count n
 -- FITS --------------------------------------------------------------------------------------------
 
 take_octets : (n : ℕ) (l : List ℕ) → Octets l → Octets (take n l)
-take_octets zero l h x m = absurd (Memᴰ.not-nil m)
-take_octets (suc n) [] h x m = absurd (Memᴰ.not-nil m)
-take_octets (suc n) (y ∷ l) h x (Memᴰ.head e) = h x (Memᴰ.head e)
-take_octets (suc n) (y ∷ l) h x (Memᴰ.tail m) = take_octets n l (λ z k. h z (Memᴰ.tail k)) x m
+take_octets n l h x m = h x (rw take-append-drop at (Memᴰ.append_left (drop n l) m))
 
 drop_octets : (n : ℕ) (l : List ℕ) → Octets l → Octets (drop n l)
-drop_octets zero l h x m = h x m
-drop_octets (suc n) [] h x m = absurd (Memᴰ.not-nil m)
-drop_octets (suc n) (y ∷ l) h x m = drop_octets n l (λ z k. h z (Memᴰ.tail k)) x m
+drop_octets n l h x m = h x (rw take-append-drop at (Memᴰ.append_right (take n l) m))
 
 le_lt : (l : List ℕ) → Octets l → le l < 256 ^ length l
 unfolding le

@@ -1,6 +1,6 @@
 -- Laws of loops that write numbers of any width, and of the writing of a record. Assumes nothing.
 use Prim.Native.Nat.{ℕ, suc, ◌+◌, ◌*◌, ◌<◌, ◌≤◌}
-use mathlib.Core.Path.{◌≡◌, refl, sym, ◌∙◌, ap}
+use mathlib.Core.Path.{◌≡◌, sym, ◌∙◌, ap}
 use mathlib.Core.List.{List, [], ◌∷◌, ◌++◌, append_assoc}
 use native.Mathlib.Omega.{arith}
 use native.Mathlib.Nat.{add-zero, add-suc, suc-add, mul-suc}
@@ -37,10 +37,6 @@ pub record Putting (k : ℕ) (d s₀ : List ℕ) (at : ℕ) (s : List ℕ) (i : 
   pub within : i ≤ length d
   pub kept : length s ≡ length s₀
   pub put : sets s₀ at (flat (bytes k) d) ≡ sets s (at + k * i) (flat (bytes k) (drop i d))
-
-module _ (k : ℕ) (d s : List ℕ) (at : ℕ) where
-  pub putting_start : Putting k d s at s 0
-  putting_start = record { within = omega arith; kept = refl; put = ap (λ (p : ℕ). sets s p (flat (bytes k) d)) (omega arith) }
 
 module _ {k : ℕ} {d s₀ : List ℕ} {at : ℕ} {s : List ℕ} {i : ℕ} (r : Putting k d s₀ at s i) where
   pub putting_step : {s₁ : List ℕ} → i < length d → s₁ ≡ sets s (at + k * i) (bytes k (get_or d i 0)) → Putting k d s₀ at s₁ (i + 1)

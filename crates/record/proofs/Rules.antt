@@ -1,15 +1,16 @@
 -- Laws of the test whether a record is bad. Assumes nothing.
 use Prim.Native.Nat.{ℕ, zero, suc, ◌+◌, ◌<◌, ◌≤◌, max}
-use mathlib.Core.Path.{◌≡◌, refl, ap, sym, ◌∙◌}
+use mathlib.Core.Path.{◌≡◌, refl, ap, sym}
 use mathlib.Core.Bool.{Bool, true, not, ◌&&◌, ◌||◌, and-true, and_assoc}
 use mathlib.Core.List.{List}
-use native.Mathlib.Decide.{dec_lt, ℕ_discrete}
+use native.Mathlib.Decide.{dec_lt}
 use native.Mathlib.Omega.{arith}
 use native.Mathlib.Numerals.{add-one}
 use lib.Dec.{ltb, eqb}
-use borrow.Author.Tests.{lt-ltb, le-ltb, eq-eqb, ne_eqb}
+use borrow.Author.Tests.{lt-ltb, le-ltb}
 use lib.ListN.{length, drop, get_or, drop_of_length-le}
 use lib.Seq.{drop-cons}
+use Rattle.std.proofs.lemmas.Cmp.{nat_eq_equiv}
 use Rattle.record.specs.Lists.{all}
 use Rattle.record.specs.Node.{fields, last_kind, class_of, rank, class, is_internal, bad}
 use Rattle.record.specs.declared.Node.{Node}
@@ -24,9 +25,6 @@ unfolding all
 all_end t l i h = rw (drop_of_length-le l h)
 
 -- a test of the elements from `from` on, by a look at every element: what lies before `from` passes
-pub looked_start : (t : ℕ → Bool) (l : List ℕ) (from : ℕ) → all t (drop from l) ≡ (true && all t (drop (max 0 from) l))
-looked_start t l from = let z : max 0 from ≡ from = omega arith in rw z
-
 pub looked_on : (l : List ℕ) (from i : ℕ) (b : Bool) → i < length l → (b && all (eqb 0) (drop (max i from) l)) ≡ ((b && (ltb i from || eqb (get_or l i 0) 0)) && all (eqb 0) (drop (max (i + 1) from) l))
 looked_on l from i b h =
     elim (dec_lt i from) [
@@ -36,15 +34,8 @@ looked_on l from i b h =
       | no q ↦
           let z : max i from ≡ i = omega arith in
           let y : max (i + 1) from ≡ i + 1 = omega arith in
-          rw (z, y, le-ltb i from (omega arith), all_step (eqb 0) l i h, eqb_sym (get_or l i 0) 0) (sym (and_assoc b (eqb 0 (get_or l i 0)) (all (eqb 0) (drop (i + 1) l))))
+          rw (z, y, le-ltb i from (omega arith), all_step (eqb 0) l i h, nat_eq_equiv.symm (get_or l i 0) 0) (sym (and_assoc b (eqb 0 (get_or l i 0)) (all (eqb 0) (drop (i + 1) l))))
     ]
-  where
-    eqb_sym : (a b : ℕ) → eqb a b ≡ eqb b a
-    eqb_sym a b =
-        elim (ℕ_discrete a b) [
-          | yes e ↦ eq-eqb a b e ∙ sym (eq-eqb b a (sym e))
-          | no e ↦ ne_eqb a b e ∙ sym (ne_eqb b a (λ z. e (sym z)))
-        ]
 
 pub looked_end : (l : List ℕ) (from i : ℕ) (b : Bool) → length l ≤ i → (b && all (eqb 0) (drop (max i from) l)) ≡ b
 looked_end l from i b h = rw (all_end (eqb 0) l (max i from) (omega arith)) (and-true b)

@@ -4,11 +4,8 @@ use native.Mathlib.Omega.{arith}
 use lib.ListN.{length, get_or}
 use Rattle.std.specs.Prelude.{map}
 use Rattle.std.proofs.lemmas.List.{length-map, get_or-map}
-use Rattle.record.proofs.Puts.{putting_start, putting_step, putting_end}
+use Rattle.record.proofs.Puts.{putting_step, putting_end}
 use Rattle.record.proofs.put_words.Goals as goal
-
-pub loop-i-init : goal.loop-i-init
-loop-i-init g c = putting_start _ _ _ _
 
 pub loop-i-preserved : goal.loop-i-preserved
 loop-i-preserved g c =

@@ -2,13 +2,9 @@ use mathlib.Core.Path.{◌≡◌, sym, ◌∙◌}
 use native.Mathlib.Omega.{arith}
 use borrow.Author.Rules.{rules}
 use lib.ListN.{length}
-use lib.Dec.{eqb}
 use Rattle.record.specs.Node.{fields}
-use Rattle.record.proofs.Rules.{looked_start, looked_on, looked_end}
+use Rattle.record.proofs.Rules.{looked_on, looked_end}
 use Rattle.record.proofs.unused_are_zero.Goals as goal
-
-pub loop-i-init : goal.loop-i-init
-loop-i-init c = looked_start (eqb 0) c.args.kids c.args.count
 
 pub loop-i-preserved : goal.loop-i-preserved
 loop-i-preserved c =

@@ -1,11 +1,8 @@
 use mathlib.Core.Path.{◌≡◌, ap}
 use Prim.Native.Nat.{ℕ, ◌+◌, ◌*◌}
-use Rattle.std.proofs.lemmas.List.{length-map, length-replicate, map-set}
-use Rattle.record.proofs.Readings.{reading_start, reading_step, reading_end}
+use Rattle.std.proofs.lemmas.List.{map-set}
+use Rattle.record.proofs.Readings.{reading_step, reading_end}
 use Rattle.record.proofs.words_at.Goals as goal
-
-pub loop-i-init : goal.loop-i-init
-loop-i-init g c = reading_start _ _ _ _ _ (simp (length-map, length-replicate))
 
 pub loop-i-preserved : goal.loop-i-preserved
 loop-i-preserved g c =
