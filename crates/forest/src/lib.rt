@@ -24,7 +24,7 @@ pub enum Reply {
 }
 
 // A reply's number and its two values.
-#[derive(Clone, Copy)]
+#[derive(Clone, Copy, PartialEq, Eq)]
 pub struct Told {
     pub number: u32,
     pub first: u64,
