@@ -19,11 +19,11 @@ pub(crate) fn front<T>(buffer: &[T], n: usize) -> &[T] {
 
 // What the places of a buffer hold: the bytes of records, or words.
 pub(crate) trait Value: Copy + PartialEq + Default {
-    // The mark in a place: it differs from its neighbours, and is neither 0 nor a number of a case.
+    // The mark in a place: none is 0, and neighbours differ.
     fn mark(i: usize) -> Self;
 
-    // Writes what a part of a case says, as much as fits; says how much that is.
-    fn read(text: &[u8], out: &mut [Self]) -> usize;
+    // Writes what a part of a case says, as much as fits.
+    fn read(text: &[u8], out: &mut [Self]);
 }
 
 impl Value for u8 {
@@ -31,18 +31,19 @@ impl Value for u8 {
         (i % 251 + 3) as u8
     }
 
-    fn read(text: &[u8], out: &mut [u8]) -> usize {
-        read_nodes(text, out)
+    fn read(text: &[u8], out: &mut [u8]) {
+        read_nodes(text, out);
     }
 }
 
 impl Value for u32 {
+    // No case has a number that high.
     fn mark(i: usize) -> u32 {
         (3000000000 + i % WORDS) as u32
     }
 
-    fn read(text: &[u8], out: &mut [u32]) -> usize {
-        read_words(text, out)
+    fn read(text: &[u8], out: &mut [u32]) {
+        read_words(text, out);
     }
 }
 
@@ -150,8 +151,11 @@ impl Room {
 
     // Whether each id has itself as its new id.
     pub(crate) fn moves_nothing(&self) -> bool {
-        let mut ids = self.ids.lent().iter().enumerate();
-        ids.all(|(i, &id)| id as usize == i)
+        self.ids
+            .lent()
+            .iter()
+            .enumerate()
+            .all(|(i, &id)| id as usize == i)
     }
 
     pub(crate) fn work_is_zero(&self) -> bool {

@@ -30,7 +30,7 @@ fn same(case: &[u8], room: &Room) -> bool {
     let outputs = Section::Outputs.of(case);
     let same_nodes = room.nodes.holds(Some(outputs));
     let same_roots = room.roots.holds(Some(Part::Roots.of(outputs)));
-    same_nodes & same_roots & room.moves_nothing() & room.work_is_zero()
+    same_nodes && same_roots && room.moves_nothing() && room.work_is_zero()
 }
 
 // Whether a result passes Validate, and canonicalizing it again changes no id.
@@ -42,7 +42,7 @@ fn settled(case: &[u8], canonical: &Room) -> Result<(), Fault> {
     }
     let mut again = Room::marked(fitting(nodes.len() / record::SIZE, roots.len()));
     let reply = again.canonicalize(nodes, roots);
-    if accepted(reply) & same(case, &again) {
+    if accepted(reply) && same(case, &again) {
         Ok(())
     } else {
         Err(Fault::Moved)

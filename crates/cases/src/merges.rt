@@ -1,6 +1,8 @@
 // Cases of Merge: `name | forests | reply | nodes : roots : ids | limit lengths | table`, a forest `nodes : roots`.
 // Lengths are of buffers 1 to 7; a table is given where it is not that of the forests.
-ghost use Rattle.std.specs.Prelude.{◌*◌, ◌≤◌};
+ghost use Rattle.std.specs.Prelude.{◌≤◌};
+ghost use Rattle.cases.specs.declared.buffers.TheConstants.{NODES, WORDS};
+ghost use Rattle.cases.specs.declared.merges.TheConstants.{FORESTS};
 
 use crate::buffers::{BYTES, Lengths, Room, WORDS, front};
 use crate::compare::{Fault, compared};
@@ -27,9 +29,9 @@ struct Forests {
     row_count: usize,
     node_count: usize,
     root_count: usize,
-    ghost rows_fit: { row_count ≤ 16 },
-    ghost nodes_fit: { node_count ≤ 16 },
-    ghost roots_fit: { root_count ≤ 288 },
+    ghost rows_fit: { row_count ≤ FORESTS },
+    ghost nodes_fit: { node_count ≤ NODES },
+    ghost roots_fit: { root_count ≤ WORDS },
 }
 
 // The limit, and the lengths of the buffers that are lent.
@@ -45,10 +47,8 @@ struct Job {
 impl Forests {
     // Reads the forest at the front of a text.
     fn read(&mut self, forest: &[u8]) {
-        let from = self.node_count * record::SIZE;
-        let nodes = read_nodes(forest, &mut self.nodes[from..]);
-        let start = self.root_count;
-        let roots = read_words(Part::Roots.of(forest), &mut self.roots[start..]);
+        let nodes = read_nodes(forest, &mut self.nodes[self.node_count * record::SIZE..]);
+        let roots = read_words(Part::Roots.of(forest), &mut self.roots[self.root_count..]);
         if let Some(row) = self.rows.get_mut(self.row_count) {
             *row = [nodes as u32, roots as u32];
             self.row_count += 1;

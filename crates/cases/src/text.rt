@@ -2,8 +2,16 @@
 // Nodes are written as in document 01: E7, B7, I7(0,1). E7.0.0.1 gives all four digest words, I7k5(0) the kind 5,
 // and R2.1.0.5 a record's kind, count and child fields as they stand, under a digest of zeros.
 ghost use Rattle.std.specs.Prelude.{◌<◌, ◌≤◌, ◌*◌, length};
+ghost use Rattle.record.specs.Node.{size};
 
 use record::Node;
+
+// The kinds of externals and blocks, and that of an internal that gives none.
+const EXTERNAL: u32 = 0;
+
+const BLOCK: u32 = 1;
+
+const INTERNAL: u32 = 2;
 
 // The sections of a case, in their order.
 #[derive(Clone, Copy)]
@@ -26,9 +34,8 @@ pub(crate) enum Part {
 
 // The text behind the k-th such mark, or nothing where there are fewer.
 fn behind(text: &[u8], mark: u8, k: u8) -> &[u8] {
-    text.splitn(k as usize + 1, |&c| c == mark)
-        .nth(k as usize)
-        .unwrap_or(&[])
+    let k = usize::from(k);
+    text.splitn(k + 1, |&c| c == mark).nth(k).unwrap_or(&[])
 }
 
 impl Section {
@@ -50,7 +57,7 @@ pub(crate) fn next_forest(text: &[u8]) -> &[u8]
     requires { 0 < length text.now }
     ensures { length result.now < length text.now }
 {
-    match text.iter().position(|&c| (c == b'|') | (c == b';')) {
+    match text.iter().position(|c| matches!(c, b'|' | b';')) {
         Some(i) if text[i] == b';' => &text[i + 1..],
         _ => &[],
     }
@@ -137,7 +144,7 @@ impl Cursor<'_> {
     // An internal's digest, kind and children.
     fn internal(&mut self) -> Node {
         let digest = self.four();
-        let kind = self.marked(b'k').map_or(2, narrow);
+        let kind = self.marked(b'k').map_or(INTERNAL, narrow);
         let first = self.marked(b'(');
         let second = self.marked(b',');
         Node {
@@ -165,8 +172,8 @@ impl Cursor<'_> {
     // The node that a letter and what stands behind it say.
     fn node(&mut self, letter: u8) -> Node {
         match letter {
-            b'E' => self.leaf(0),
-            b'B' => self.leaf(1),
+            b'E' => self.leaf(EXTERNAL),
+            b'B' => self.leaf(BLOCK),
             b'I' => self.internal(),
             _ => self.record(),
         }
@@ -183,21 +190,20 @@ impl Cursor<'_> {
 
 // Writes the records of a part's nodes, as many as fit; says how many.
 pub(crate) fn read_nodes(text: &[u8], out: &mut [u8]) -> usize
-    ensures { result * 48 ≤ length out.new }
+    ensures { result * size ≤ length out.new }
 {
     let part = front_part(text);
+    let letters = part
+        .iter()
+        .enumerate()
+        .filter(|(_, c)| c.is_ascii_uppercase());
+    let (records, _) = out.as_chunks_mut::<{ record::SIZE }>();
     let mut n = 0;
-    for (i, &letter) in part.iter().enumerate() {
-        if !letter.is_ascii_uppercase() {
-            continue;
-        }
-        if out.len() / record::SIZE <= n {
-            break;
-        }
+    for (place, (i, letter)) in records.iter_mut().zip(letters) {
         let mut cursor = Cursor {
             rest: &part[i + 1..],
         };
-        record::put_node(out, n, cursor.node(letter));
+        record::put_node(place, 0, cursor.node(*letter));
         n += 1;
     }
     n
