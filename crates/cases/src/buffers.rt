@@ -95,17 +95,6 @@ pub(crate) struct Lengths {
     pub(crate) work: usize,
 }
 
-impl From<[u32; 4]> for Lengths {
-    fn from([nodes, roots, ids, work]: [u32; 4]) -> Self {
-        Lengths {
-            nodes: nodes as usize,
-            roots: roots as usize,
-            ids: ids as usize,
-            work: work as usize,
-        }
-    }
-}
-
 // The outputs and the work room.
 #[derive(Drop)]
 pub(crate) struct Room {

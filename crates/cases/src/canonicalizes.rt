@@ -21,8 +21,16 @@ fn lengths_of(case: &[u8], nodes: usize, roots: usize) -> (usize, Lengths) {
         let lengths = fitting(nodes, roots);
         return (lengths.nodes, lengths);
     };
-    let [lent, nodes, roots, ids, work] = given;
-    (lent as usize, Lengths::from([nodes, roots, ids, work]))
+    let [lent, nodes, roots, ids, work] = given.map(|n| n as usize);
+    (
+        lent,
+        Lengths {
+            nodes,
+            roots,
+            ids,
+            work,
+        },
+    )
 }
 
 // Whether the outputs are those of the case, no id changes, and the work room is zero.

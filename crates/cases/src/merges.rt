@@ -57,7 +57,7 @@ impl Forests {
         }
     }
 
-    // Reads the forests of a case.
+    // Reads the forests of a case, each from all that is left: the first colon there is that of its roots.
     fn of(case: &[u8]) -> Self {
         let mut forests = Forests {
             rows: [[0; 2]; FORESTS],
@@ -98,13 +98,18 @@ impl Forests {
         let Some(given) = words::<8>(numbers) else {
             return self.roomy(words::<1>(numbers).map_or(LIMIT, |[limit]| limit));
         };
-        let [limit, table, nodes, roots, node_out, root_out, ids, work] = given;
+        let [_, table, nodes, roots, node_out, root_out, ids, work] = given.map(|n| n as usize);
         Job {
-            limit,
-            table: table as usize,
-            nodes: nodes as usize,
-            roots: roots as usize,
-            out: Lengths::from([node_out, root_out, ids, work]),
+            limit: given[0],
+            table,
+            nodes,
+            roots,
+            out: Lengths {
+                nodes: node_out,
+                roots: root_out,
+                ids,
+                work,
+            },
         }
     }
 }

@@ -15,6 +15,7 @@ pub fn read_full<R: Read>(input: &mut R, buffer: &mut [u8]) -> io::Result<usize>
     ensures none_lost { OnErr result ((d : ℕ) × (d ≤ length buffer.new) × Consumes (R.remaining input.old) (R.remaining input.new) (take d buffer.new)) }
     ensures end { IfOk result (λ n. n < length buffer.new → IsAtEnd (R.remaining input.new)) }
 {
+    // `read_to_end` takes a heap, and `read_exact` does not say how much there was.
     let mut done = 0;
     while done < buffer.len() {
         let n = input.read(&mut buffer[done..])?;
