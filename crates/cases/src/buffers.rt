@@ -1,130 +1,153 @@
 // The buffers that a case lends, with a mark in each place, and what they hold afterwards.
-ghost use Rattle.std.specs.Counts.{IsPrefixLen};
-ghost use Rattle.std.specs.Prelude.{◌≡◌, ◌≤◌, length};
+ghost use Rattle.std.specs.Prelude.{◌≤◌};
+
+use crate::text::{read_nodes, read_words};
+use forest::Reply;
+use std::array;
 
 // Room for the records of 16 nodes, and for their work words and some more.
 pub(crate) const NODES: usize = 16;
 
-pub(crate) const BYTES: usize = 768;
+pub(crate) const BYTES: usize = NODES * record::SIZE;
 
 pub(crate) const WORDS: usize = 288;
 
-// Room for a table of two rows more than there may be forests.
-pub(crate) const TABLE_BYTES: usize = 8208;
-
-// A count, or the most if it is above that.
-pub(crate) fn within(n: usize, most: usize) -> usize
-    ensures { result ≤ most }
-{
-    if n < most { n } else { most }
+// The first places of a buffer, or all where there are fewer.
+pub(crate) fn front<T>(buffer: &[T], n: usize) -> &[T] {
+    &buffer[..n.min(buffer.len())]
 }
 
-// A count of a buffer's bytes.
-pub(crate) fn within_bytes(n: usize, buffer: &[u8]) -> usize
-    ensures { IsPrefixLen result buffer.now }
-{
-    within(n, buffer.len())
+// What the places of a buffer hold: the bytes of records, or words.
+pub(crate) trait Value: Copy + PartialEq + Default {
+    // The mark in a place: none is 0, and neighbours differ.
+    fn mark(i: usize) -> Self;
+
+    // Writes what a part of a case says, as much as fits.
+    fn read(text: &[u8], out: &mut [Self]);
 }
 
-// A count of a buffer's words.
-pub(crate) fn within_words(n: usize, buffer: &[u32]) -> usize
-    ensures { IsPrefixLen result buffer.now }
-{
-    within(n, buffer.len())
-}
-
-// A word as a number of places.
-pub(crate) fn size(x: u32) -> usize {
-    x as usize
-}
-
-// Bytes of zeros.
-pub(crate) fn zero_bytes() -> [u8; BYTES]
-    ensures { 768 ≡ length result }
-{
-    [0; BYTES]
-}
-
-// Words of zeros.
-pub(crate) fn zero_words() -> [u32; WORDS]
-    ensures { 288 ≡ length result }
-{
-    [0; WORDS]
-}
-
-// Bytes of zeros for a table.
-pub(crate) fn zero_table() -> [u8; TABLE_BYTES]
-    ensures { 8208 ≡ length result }
-{
-    [0; TABLE_BYTES]
-}
-
-// Bytes, the first n of them with marks: none is 0, and neighbours differ.
-pub(crate) fn marked_bytes(n: usize) -> [u8; BYTES]
-    ensures { 768 ≡ length result }
-{
-    let mut b = zero_bytes();
-    let end = within(n, BYTES);
-    let mut i = 0;
-    while i < end {
-        b[i] = (i % 251 + 3) as u8;
-        i += 1;
+impl Value for u8 {
+    fn mark(i: usize) -> u8 {
+        (i % 251 + 3) as u8
     }
-    b
+
+    fn read(text: &[u8], out: &mut [u8]) {
+        read_nodes(text, out);
+    }
 }
 
-// Words, the first n of them with marks: no case has a number that high.
-pub(crate) fn marked_words(n: usize) -> [u32; WORDS]
-    ensures { 288 ≡ length result }
-{
-    let mut w = zero_words();
-    let end = within(n, WORDS);
-    let mut i = 0;
-    while i < end {
-        w[i] = (3000000000 + i) as u32;
-        i += 1;
+impl Value for u32 {
+    // No case has a number that high.
+    fn mark(i: usize) -> u32 {
+        (3000000000 + i % WORDS) as u32
     }
-    w
+
+    fn read(text: &[u8], out: &mut [u32]) {
+        read_words(text, out);
+    }
 }
 
-// Whether a buffer holds the first of the bytes that are wanted.
-pub(crate) fn holds_bytes(buffer: &[u8], want: &[u8; BYTES]) -> bool {
-    let mut i = 0;
-    while i < buffer.len() {
-        if BYTES <= i {
-            return false;
-        }
-        if buffer[i] != want[i] {
-            return false;
-        }
-        i += 1;
-    }
-    true
+// A buffer whose first places are lent, with a mark in each.
+#[derive(Drop)]
+pub(crate) struct Buffer<T, const N: usize> {
+    places: [T; N],
+    lent: usize,
+    ghost within: { lent ≤ N },
 }
 
-// Whether a buffer holds the first of the words that are wanted.
-pub(crate) fn holds_words(buffer: &[u32], want: &[u32; WORDS]) -> bool {
-    let mut i = 0;
-    while i < buffer.len() {
-        if WORDS <= i {
-            return false;
+impl<T: Value, const N: usize> Buffer<T, N> {
+    // Lends as many places as are asked for, or all.
+    pub(crate) fn marked(asked: usize) -> Self {
+        let lent = asked.min(N);
+        Buffer {
+            places: array::from_fn(|i| if i < lent { T::mark(i) } else { T::default() }),
+            lent,
         }
-        if buffer[i] != want[i] {
-            return false;
-        }
-        i += 1;
     }
-    true
+
+    pub(crate) fn lent(&self) -> &[T] {
+        &self.places[..self.lent]
+    }
+
+    pub(crate) fn lent_mut(&mut self) -> &mut [T] {
+        let end = self.lent;
+        let places = &mut self.places;
+        let all = &mut places[..];
+        &mut all[..end]
+    }
+
+    // Whether what was lent holds what a text says and then its marks, or its marks alone where there is no text.
+    pub(crate) fn holds(&self, text: Option<&[u8]>) -> bool {
+        let mut want = Self::marked(self.lent);
+        if let Some(text) = text {
+            T::read(text, &mut want.places);
+        }
+        want.places.starts_with(self.lent())
+    }
 }
 
-// Whether each id has itself as its new id.
-pub(crate) fn moves_nothing(ids: &[u32]) -> bool {
-    let mut i = 0;
-    while i < ids.len() {
-        if size(ids[i]) != i {
-            return false;
+// How many places of the outputs and of the work room are lent.
+#[derive(Clone, Copy)]
+pub(crate) struct Lengths {
+    pub(crate) nodes: usize,
+    pub(crate) roots: usize,
+    pub(crate) ids: usize,
+    pub(crate) work: usize,
+}
+
+// The outputs and the work room.
+#[derive(Drop)]
+pub(crate) struct Room {
+    pub(crate) nodes: Buffer<u8, BYTES>,
+    pub(crate) roots: Buffer<u32, WORDS>,
+    pub(crate) ids: Buffer<u32, WORDS>,
+    pub(crate) work: Buffer<u32, WORDS>,
+}
+
+impl Room {
+    pub(crate) fn marked(lengths: Lengths) -> Self {
+        Room {
+            nodes: Buffer::marked(lengths.nodes),
+            roots: Buffer::marked(lengths.roots),
+            ids: Buffer::marked(lengths.ids),
+            work: Buffer::marked(lengths.work),
         }
-        i += 1;
     }
-    true
+
+    pub(crate) fn canonicalize(&mut self, nodes: &[u8], roots: &[u32]) -> Reply {
+        dense_order::canonicalize(
+            nodes,
+            roots,
+            self.nodes.lent_mut(),
+            self.roots.lent_mut(),
+            self.ids.lent_mut(),
+            self.work.lent_mut(),
+        )
+    }
+
+    pub(crate) fn merge(&mut self, table: &[u8], nodes: &[u8], roots: &[u32], limit: u32) -> Reply {
+        merger::merge(
+            table,
+            nodes,
+            roots,
+            limit,
+            self.nodes.lent_mut(),
+            self.roots.lent_mut(),
+            self.ids.lent_mut(),
+            self.work.lent_mut(),
+        )
+    }
+
+    // Whether each id has itself as its new id.
+    pub(crate) fn moves_nothing(&self) -> bool {
+        self.ids
+            .lent()
+            .iter()
+            .enumerate()
+            .all(|(i, &id)| id as usize == i)
+    }
+
+    pub(crate) fn work_is_zero(&self) -> bool {
+        self.work.lent().iter().all(|&word| word == 0)
+    }
 }

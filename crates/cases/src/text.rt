@@ -1,280 +1,229 @@
 // A case is a line of text. Bars part its sections, semicolons forests, colons the parts of a forest or a section.
 // Nodes are written as in document 01: E7, B7, I7(0,1). E7.0.0.1 gives all four digest words, I7k5(0) the kind 5,
 // and R2.1.0.5 a record's kind, count and child fields as they stand, under a digest of zeros.
-ghost use Rattle.std.specs.Prelude.{◌<◌, ◌≤◌, length};
+ghost use Rattle.std.specs.Prelude.{◌<◌, ◌≤◌, ◌*◌, length};
+ghost use Rattle.record.specs.Node.{size};
 
 use record::Node;
 
-// The number behind a mark, whether it has a digit, and where it ends.
-#[derive(Drop)]
-struct Number {
-    value: u64,
-    found: bool,
-    end: usize,
+// The kinds of externals and blocks, and that of an internal that gives none.
+const EXTERNAL: u32 = 0;
+
+const BLOCK: u32 = 1;
+
+const INTERNAL: u32 = 2;
+
+// The sections of a case, in their order.
+#[derive(Clone, Copy)]
+pub(crate) enum Section {
+    Name,
+    Lent,
+    Reply,
+    Outputs,
+    Numbers,
+    Table,
 }
 
-// Four numbers that points part, and where they end.
-#[derive(Drop)]
-struct Four {
-    values: [u64; 4],
-    end: usize,
+// The parts of a forest and of the outputs, in their order.
+#[derive(Clone, Copy)]
+pub(crate) enum Part {
+    Nodes,
+    Roots,
+    Ids,
 }
 
-// Where the part behind the next such mark begins, or the end of the text.
-pub(crate) fn behind(text: &[u8], at: usize, mark: u8) -> usize {
-    let mut i = at;
-    while i < text.len() {
-        if text[i] == mark {
-            return i + 1;
-        }
-        i += 1;
+// The text behind the k-th such mark, or nothing where there are fewer.
+fn behind(text: &[u8], mark: u8, k: u8) -> &[u8] {
+    let k = usize::from(k);
+    text.splitn(k + 1, |&c| c == mark).nth(k).unwrap_or(&[])
+}
+
+impl Section {
+    // The text from this section of a case on.
+    pub(crate) fn of(self, case: &[u8]) -> &[u8] {
+        behind(case, b'|', self as u8)
     }
-    text.len()
 }
 
-// The place behind the k-th mark from `at` on.
-fn skip(case: &[u8], at: usize, mark: u8, k: u32) -> usize {
-    let mut i = at;
-    let mut left = k;
-    while 0 < left {
-        i = behind(case, i, mark);
-        left -= 1;
+impl Part {
+    // The text from this part of a forest or a section on.
+    pub(crate) fn of(self, text: &[u8]) -> &[u8] {
+        behind(text, b':', self as u8)
     }
-    i
 }
 
-// Where section k of a case begins.
-pub(crate) fn section(case: &[u8], k: u32) -> usize {
-    skip(case, 0, b'|', k)
-}
-
-// Where part k of a forest or a section begins.
-pub(crate) fn part(case: &[u8], at: usize, k: u32) -> usize {
-    skip(case, at, b':', k)
-}
-
-// Where the forest behind the one at a place begins, or the end of the text.
-pub(crate) fn next_forest(case: &[u8], at: usize) -> usize
-    requires { at < length case.now }
-    ensures { at < result }
+// The text from the forest behind the first on, or nothing where it is the last.
+pub(crate) fn next_forest(text: &[u8]) -> &[u8]
+    requires { 0 < length text.now }
+    ensures { length result.now < length text.now }
 {
-    let mut i = at;
-    while i < case.len() {
-        if case[i] == b'|' {
-            return case.len();
-        }
-        if case[i] == b';' {
-            return i + 1;
-        }
-        i += 1;
-    }
-    case.len()
-}
-
-// Where the line that begins at a place ends.
-pub(crate) fn line_end(text: &[u8], at: usize) -> usize
-    requires { at ≤ length text.now }
-    ensures lower_bound { at ≤ result }
-    ensures upper_bound { result ≤ length text.now }
-{
-    let mut i = at;
-    while i < text.len() {
-        if text[i] == b'\n' {
-            return i;
-        }
-        i += 1;
-    }
-    i
-}
-
-// The value with one more digit behind it; what is no digit, or would pass 64 bits, is left out.
-fn with_digit(value: u64, digit: u8) -> u64 {
-    if digit < b'0' {
-        return value;
-    }
-    if b'9' < digit {
-        return value;
-    }
-    let low = (digit - b'0') as u64;
-    if (18446744073709551615 - low) / 10 < value {
-        return value;
-    }
-    value * 10 + low
-}
-
-// The number that begins at a place.
-fn number_at(text: &[u8], at: usize) -> Number {
-    let mut value = 0;
-    let mut i = at;
-    while i < text.len() {
-        let c = text[i];
-        if (c < b'0') | (b'9' < c) {
-            return Number {
-                value,
-                found: at < i,
-                end: i,
-            };
-        }
-        value = with_digit(value, c);
-        i += 1;
-    }
-    Number {
-        value,
-        found: at < i,
-        end: i,
+    match text.iter().position(|c| matches!(c, b'|' | b';')) {
+        Some(i) if text[i] == b';' => &text[i + 1..],
+        _ => &[],
     }
 }
 
-// The number behind a mark, if the mark stands at the place.
-fn marked(text: &[u8], at: usize, mark: u8) -> Number {
-    if at < text.len() {
-        if text[at] == mark {
-            return number_at(text, at + 1);
-        }
-    }
-    Number {
-        value: 0,
-        found: false,
-        end: at,
-    }
+// The front of a text that a mark ends.
+fn front_part(text: &[u8]) -> &[u8] {
+    let end = text.iter().position(|c| matches!(c, b':' | b';' | b'|'));
+    &text[..end.unwrap_or(text.len())]
 }
 
-// Four numbers that points part; those that are left out are 0.
-fn four_at(text: &[u8], at: usize) -> Four {
-    let a = number_at(text, at);
-    let b = marked(text, a.end, b'.');
-    let c = marked(text, b.end, b'.');
-    let d = marked(text, c.end, b'.');
-    let values = [a.value, b.value, c.value, d.value];
-    Four { values, end: d.end }
+// The value with one more digit behind it, if it is one and 64 bits hold them.
+fn with_digit(value: u64, digit: u8) -> Option<u64> {
+    let low = char::from(digit).to_digit(10)?;
+    value.checked_mul(10)?.checked_add(u64::from(low))
 }
 
 // A number of 32 bits; no case has a larger one in its place.
 fn narrow(x: u64) -> u32 {
-    if x < 4294967296 { x as u32 } else { 4294967295 }
+    u32::try_from(x).unwrap_or(u32::MAX)
 }
 
-// A record of four fields as they stand.
-fn record_at(text: &[u8], at: usize) -> Node {
-    let four = four_at(text, at);
-    let values = four.values;
-    let kids = [narrow(values[2]), narrow(values[3])];
-    let digest = [0u64, 0, 0, 0];
-    Node {
-        kind: narrow(values[0]),
-        count: narrow(values[1]),
-        kids,
-        digest,
-    }
+// A text that is read from its front on.
+#[derive(Drop)]
+struct Cursor<'a> {
+    rest: &'a [u8],
 }
 
-// How many of two numbers are there.
-fn found(first: Number, second: Number) -> u32 {
-    if !first.found {
-        return 0;
-    }
-    if second.found { 2 } else { 1 }
-}
-
-// An internal's digest, kind and children.
-fn internal_at(text: &[u8], at: usize) -> Node {
-    let four = four_at(text, at);
-    let digest = four.values;
-    let kind = marked(text, four.end, b'k');
-    let first = marked(text, kind.end, b'(');
-    let second = marked(text, first.end, b',');
-    let kids = [narrow(first.value), narrow(second.value)];
-    Node {
-        kind: if kind.found { narrow(kind.value) } else { 2 },
-        count: found(first, second),
-        kids,
-        digest,
-    }
-}
-
-// A node without children.
-fn leaf_at(text: &[u8], at: usize, kind: u32) -> Node {
-    let four = four_at(text, at);
-    let digest = four.values;
-    let kids = [0u32, 0];
-    Node {
-        kind,
-        count: 0,
-        kids,
-        digest,
-    }
-}
-
-// The node that a letter and what stands behind it say.
-fn node_at(text: &[u8], at: usize, letter: u8) -> Node {
-    match letter {
-        b'E' => leaf_at(text, at, 0),
-        b'B' => leaf_at(text, at, 1),
-        b'I' => internal_at(text, at),
-        _ => record_at(text, at),
-    }
-}
-
-// Whether a part ends at this mark.
-fn ends(c: u8) -> bool {
-    (c == b':') | (c == b';') | (c == b'|')
-}
-
-// Writes the records of a part's nodes from record `from` on, as many as fit; says where they end.
-pub(crate) fn read_nodes(text: &[u8], at: usize, out: &mut [u8], from: usize) -> usize {
-    let most = out.len() / record::SIZE;
-    let mut n = from;
-    let mut i = at;
-    while i < text.len() {
-        let c = text[i];
-        i += 1;
-        if ends(c) {
-            return n;
+impl Cursor<'_> {
+    // Passes the mark, if it stands here.
+    fn passes(&mut self, mark: u8) -> bool {
+        match self.rest.split_first() {
+            Some((&c, rest)) if c == mark => {
+                self.rest = rest;
+                true
+            }
+            _ => false,
         }
-        if (c < b'A') | (b'Z' < c) {
-            continue;
+    }
+
+    // The number that begins here; a digit that would pass 64 bits is left out.
+    fn number(&mut self) -> Option<u64> {
+        let end = self.rest.iter().position(|c| !c.is_ascii_digit());
+        let (digits, rest) = self.rest.split_at(end.unwrap_or(self.rest.len()));
+        self.rest = rest;
+        if digits.is_empty() {
+            return None;
         }
-        if most <= n {
-            return n;
+        Some(
+            digits.iter().fold(0, |value, &digit| {
+                with_digit(value, digit).unwrap_or(value)
+            }),
+        )
+    }
+
+    // The number behind a mark, if the mark stands here.
+    fn marked(&mut self, mark: u8) -> Option<u64> {
+        if self.passes(mark) {
+            self.number()
+        } else {
+            None
         }
-        record::put_node(out, n, node_at(text, i, c));
+    }
+
+    // Four numbers that points part; those that are left out are 0.
+    fn four(&mut self) -> [u64; 4] {
+        let first = self.number().unwrap_or(0);
+        let second = self.marked(b'.').unwrap_or(0);
+        let third = self.marked(b'.').unwrap_or(0);
+        [first, second, third, self.marked(b'.').unwrap_or(0)]
+    }
+
+    // A record of four fields as they stand.
+    fn record(&mut self) -> Node {
+        let [kind, count, first, second] = self.four();
+        Node {
+            kind: narrow(kind),
+            count: narrow(count),
+            kids: [narrow(first), narrow(second)],
+            digest: [0; 4],
+        }
+    }
+
+    // An internal's digest, kind and children.
+    fn internal(&mut self) -> Node {
+        let digest = self.four();
+        let kind = self.marked(b'k').map_or(INTERNAL, narrow);
+        let first = self.marked(b'(');
+        let second = self.marked(b',');
+        Node {
+            kind,
+            count: match (first, second) {
+                (None, _) => 0,
+                (Some(_), None) => 1,
+                (Some(_), Some(_)) => 2,
+            },
+            kids: [first.map_or(0, narrow), second.map_or(0, narrow)],
+            digest,
+        }
+    }
+
+    // A node without children.
+    fn leaf(&mut self, kind: u32) -> Node {
+        Node {
+            kind,
+            count: 0,
+            kids: [0; 2],
+            digest: self.four(),
+        }
+    }
+
+    // The node that a letter and what stands behind it say.
+    fn node(&mut self, letter: u8) -> Node {
+        match letter {
+            b'E' => self.leaf(EXTERNAL),
+            b'B' => self.leaf(BLOCK),
+            b'I' => self.internal(),
+            _ => self.record(),
+        }
+    }
+
+    // The number that begins here, in 32 bits; a dash is the mark for none.
+    fn word(&mut self) -> u32 {
+        if self.passes(b'-') {
+            return merger::NO_ID;
+        }
+        self.number().map_or(0, narrow)
+    }
+}
+
+// Writes the records of a part's nodes, as many as fit; says how many.
+pub(crate) fn read_nodes(text: &[u8], out: &mut [u8]) -> usize
+    ensures { result * size ≤ length out.new }
+{
+    let part = front_part(text);
+    let letters = part
+        .iter()
+        .enumerate()
+        .filter(|(_, c)| c.is_ascii_uppercase());
+    let (records, _) = out.as_chunks_mut::<{ record::SIZE }>();
+    let mut n = 0;
+    for (place, (i, letter)) in records.iter_mut().zip(letters) {
+        let mut cursor = Cursor {
+            rest: &part[i + 1..],
+        };
+        record::put_node(place, 0, cursor.node(*letter));
         n += 1;
     }
     n
 }
 
-// The number that begins at a place, in 32 bits; a dash is the mark for none.
-fn word_at(text: &[u8], at: usize) -> u32 {
-    let dash = marked(text, at, b'-');
-    if at < dash.end {
-        return 4294967295;
-    }
-    let number = number_at(text, at);
-    narrow(number.value)
-}
-
-// Writes a part's numbers from word `from` on, as many as fit; says where they end. A blank stands before each.
-pub(crate) fn read_words(text: &[u8], at: usize, out: &mut [u32], from: usize) -> usize {
-    let mut n = from;
-    let mut i = at;
-    let mut blank = true;
-    while i < text.len() {
-        let c = text[i];
-        let here = i;
-        let begins = blank & (c != b' ');
-        blank = c == b' ';
-        i += 1;
-        if ends(c) {
-            return n;
-        }
-        if !begins {
-            continue;
-        }
-        if out.len() <= n {
-            return n;
-        }
-        out[n] = word_at(text, here);
+// Writes a part's numbers, as many as fit; says how many. Blanks part them.
+pub(crate) fn read_words(text: &[u8], out: &mut [u32]) -> usize
+    ensures { result ≤ length out.new }
+{
+    let words = front_part(text).split(|&c| c == b' ');
+    let mut n = 0;
+    for (place, word) in out.iter_mut().zip(words.filter(|word| !word.is_empty())) {
+        *place = Cursor { rest: word }.word();
         n += 1;
     }
     n
+}
+
+// The first numbers of a part, if there are as many.
+pub(crate) fn words<const N: usize>(text: &[u8]) -> Option<[u32; N]> {
+    let mut words = [0; N];
+    (read_words(text, &mut words) == N).then_some(words)
 }

@@ -1,13 +1,10 @@
 // The demonstration: merges the forests in the files `table`, `nodes` and `roots`, and prints the result.
 #![tactic(auto)]
 
-ghost use Rattle.std.specs.Prelude.{◌≡◌, ◌≤◌, length, take, IfOk, OnErr, IfSome};
-ghost use Rattle.std.specs.Counts.{IsPrefixLen};
-
-use forest::Told;
+use forest::Reply;
 use std::io::Read;
 use std::rt::Files;
-use std::{fs, io};
+use std::{fmt, fs, io};
 
 // The depth limit, and how many forests, nodes and roots there is room for.
 const LIMIT: u32 = 256;
@@ -30,15 +27,12 @@ const ROOT_BYTES: usize = ROOTS * ROOT_SIZE;
 // The words of work room for all nodes.
 const WORK: usize = NODES * dense_order::WORK_WORDS;
 
-// The mark for none in an id list.
-const NO_ID: u32 = merger::NO_ID;
-
-// The three files, open.
+// What the three files are read as, or the files themselves.
 #[derive(Drop)]
-struct Inputs<F: Drop> {
-    table: F,
-    nodes: F,
-    roots: F,
+struct Inputs<T: Drop> {
+    table: T,
+    nodes: T,
+    roots: T,
 }
 
 // Opens a file. A folder opens and can't be read, so reading nothing shows whether it is one.
@@ -57,85 +51,37 @@ fn open_all<R: Files>(rt: &R) -> io::Result<Inputs<R::File>> {
     })
 }
 
-// Reads a file to its end, or until the buffer is full, and closes it. After an error the buffer may hold a part of the file.
-fn read_whole<F: Read + Drop>(mut file: F, buffer: &mut [u8]) -> io::Result<usize>
-    ensures count { IfOk result (λ n. IsPrefixLen n buffer.new) }
-    ensures err { OnErr result (length buffer.new ≡ length buffer.old) }
-    ensures bytes { IfOk result (λ n. IfSome (F.remaining file) (λ xs. take n buffer.new ≡ take (length buffer.new) xs)) }
-{
-    let mut done = 0;
-    while done < buffer.len() {
-        let n = file.read(&mut buffer[done..])?;
-        if n == 0 {
-            break;
+// Where a node of the input stands in the result, as it is printed: a dash where it is not there.
+#[derive(Clone, Copy)]
+struct Place(u32);
+
+impl fmt::Display for Place {
+    fn fmt<W: fmt::Write>(&self, f: &mut fmt::Formatter<W>) -> fmt::Result {
+        match self.0 {
+            merger::NO_ID => f.write_str("-"),
+            id => write!(f, "{id}"),
         }
-        done += n;
-    }
-    Ok(done)
-}
-
-// A count, or the most if it is above that.
-fn within(n: usize, most: usize) -> usize
-    ensures { result ≤ most }
-{
-    if n < most { n } else { most }
-}
-
-// A count of a buffer's words.
-fn within_words(n: usize, buffer: &[u32]) -> usize
-    ensures { IsPrefixLen result buffer.now }
-{
-    within(n, buffer.len())
-}
-
-// A count of 64 bits as one that is not above the most roots.
-fn few(n: u64) -> usize {
-    if n < ROOTS as u64 { n as usize } else { ROOTS }
-}
-
-// Reads the root numbers in a file's bytes, as many as there is room for.
-fn read_roots(bytes: &[u8], roots: &mut [u32]) {
-    let mut i = 0;
-    while i < roots.len() {
-        if bytes.len() / ROOT_SIZE <= i {
-            return;
-        }
-        roots[i] = record::u32_at(bytes, ROOT_SIZE * i);
-        i += 1;
     }
 }
 
 // Prints a reply's three numbers on a line.
-fn print_reply(rt: &impl Print, told: Told) -> io::Result<()> {
+fn print_reply(rt: &impl Print, reply: Reply) -> io::Result<()> {
+    let told = forest::tell(reply);
     println!(rt; "{} {} {}", told.number, told.first, told.second)
-}
-
-// Prints a line with a word before a number.
-fn print_id(rt: &impl Print, before: &str, id: u32) -> io::Result<()> {
-    println!(rt; "{before} {id}")
 }
 
 // Prints a line for each root.
 fn print_roots(rt: &impl Print, roots: &[u32]) -> io::Result<()> {
     for root in roots {
-        print_id(rt, "root", *root)?;
+        println!(rt; "root {root}")?;
     }
     Ok(())
 }
 
-// Prints the line of a position.
-fn print_place(rt: &impl Print, id: u32) -> io::Result<()> {
-    if id == NO_ID {
-        println!(rt; "map -")
-    } else {
-        print_id(rt, "map", id)
-    }
-}
-
 // Prints a line for each position.
 fn print_map(rt: &impl Print, ids: &[u32]) -> io::Result<()> {
-    for id in ids {
-        print_place(rt, *id)?;
+    for &id in ids {
+        println!(rt; "map {}", Place(id))?;
     }
     Ok(())
 }
@@ -148,10 +94,10 @@ fn merge_into(
     roots: &[u32],
     ids: &mut [u32],
 ) -> io::Result<()> {
-    let mut node_out = [0u8; NODE_BYTES];
-    let mut root_out = [0u32; ROOTS];
-    let mut work = [0u32; WORK];
-    let told = forest::tell(merger::merge(
+    let mut node_out = [0; NODE_BYTES];
+    let mut root_out = [0; ROOTS];
+    let mut work = [0; WORK];
+    let reply = merger::merge(
         table,
         nodes,
         roots,
@@ -160,41 +106,56 @@ fn merge_into(
         &mut root_out,
         ids,
         &mut work,
-    ));
-    print_reply(rt, told)?;
-    if told.number != 0 {
+    );
+    print_reply(rt, reply)?;
+    let Reply::Accepted(_, count) = reply else {
         return Ok(());
-    }
-    let count = within_words(few(told.second), &root_out);
+    };
+    let count = usize::try_from(count).map_or(ROOTS, |n| n.min(ROOTS));
     print_roots(rt, &root_out[..count])?;
     print_map(rt, ids)
 }
 
+// Reads the root numbers in a file's bytes, as many as there is room for.
+fn read_roots(bytes: &[u8], roots: &mut [u32]) {
+    let (words, _) = bytes.as_chunks::<ROOT_SIZE>();
+    for (root, word) in roots.iter_mut().zip(words) {
+        *root = u32::from_le_bytes(*word);
+    }
+}
+
 // Merges the forests in three files' bytes.
-fn merge_bytes(rt: &impl Print, table: &[u8], nodes: &[u8], root_bytes: &[u8]) -> io::Result<()> {
-    let mut roots = [0u32; ROOTS];
-    read_roots(root_bytes, &mut roots);
-    let mut ids = [0u32; NODES];
-    let r = within_words(root_bytes.len() / ROOT_SIZE, &roots);
-    let n = within_words(nodes.len() / record::SIZE, &ids);
-    merge_into(rt, table, nodes, &roots[..r], &mut ids[..n])
+fn merge_bytes(rt: &impl Print, bytes: Inputs<&[u8]>) -> io::Result<()> {
+    let mut roots = [0; ROOTS];
+    read_roots(bytes.roots, &mut roots);
+    let mut ids = [0; NODES];
+    let r = ROOTS.min(bytes.roots.len() / ROOT_SIZE);
+    let n = NODES.min(bytes.nodes.len() / record::SIZE);
+    merge_into(rt, bytes.table, bytes.nodes, &roots[..r], &mut ids[..n])
 }
 
 // Reads three open files, and merges what they hold. Each buffer has a byte more than its file may have.
-fn merge_files<F: Read + Drop>(rt: &impl Print, files: Inputs<F>) -> io::Result<()> {
-    let mut table = [0u8; TABLE_BYTES + 1];
-    let mut nodes = [0u8; NODE_BYTES + 1];
-    let mut roots = [0u8; ROOT_BYTES + 1];
-    let t = read_whole(files.table, &mut table)?;
-    let n = read_whole(files.nodes, &mut nodes)?;
-    let r = read_whole(files.roots, &mut roots)?;
-    if (TABLE_BYTES < t) | (NODE_BYTES < n) | (ROOT_BYTES < r) {
+fn merge_files<F: Read + Drop>(rt: &impl Print, mut files: Inputs<F>) -> io::Result<()> {
+    let mut table = [0; TABLE_BYTES + 1];
+    let mut nodes = [0; NODE_BYTES + 1];
+    let mut roots = [0; ROOT_BYTES + 1];
+    let t = reading::read_full(&mut files.table, &mut table)?;
+    let n = reading::read_full(&mut files.nodes, &mut nodes)?;
+    let r = reading::read_full(&mut files.roots, &mut roots)?;
+    if TABLE_BYTES < t || NODE_BYTES < n || ROOT_BYTES < r {
         return println!(rt; "program limit");
     }
     if r % ROOT_SIZE != 0 {
         return println!(rt; "program input");
     }
-    merge_bytes(rt, &table[..t], &nodes[..n], &roots[..r])
+    merge_bytes(
+        rt,
+        Inputs {
+            table: &table[..t],
+            nodes: &nodes[..n],
+            roots: &roots[..r],
+        },
+    )
 }
 
 // Reads the three files of the folder that it is run in, merges them, and prints the result.

@@ -1,8 +1,8 @@
-use Rattle.std.proofs.Common.{◌≡◌, ◌-◌, ◌/◌, length}
+use Rattle.std.proofs.Common.{◌≤◌, length}
 use Rattle.cases.proofs.text.read_nodes.Given as goal
 
-abbrev pub invariant-loop-i : goal.invariant-loop-i
-invariant-loop-i l = (l.most ≡ length l.out / 48) × (length l.out ≡ length l.initial.out)
-
-abbrev pub decreases-loop-i : goal.decreases-loop-i
-decreases-loop-i l = length l.text - l.i
+abbrev pub invariant-loop-place : goal.invariant-loop-place
+invariant-loop-place l =
+    (goal.iterator-loop-place).can_next l.place-iterator ×
+    (goal.iterator-loop-place).is_finite l.place-iterator ×
+    (l.n ≤ length l.yielded)
