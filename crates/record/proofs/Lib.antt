@@ -7,4 +7,5 @@ pub mod Nodes
 pub mod Readings
 pub mod Puts
 pub mod Rules
+pub mod Renumbers
 pub mod Classes

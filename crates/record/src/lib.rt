@@ -1,12 +1,12 @@
 // Records of fixed size in a slice of bytes, and the order of digests.
 #![tactic(auto)]
 
-ghost use Rattle.std.specs.Prelude.{◌≡◌, ◌+◌, ◌*◌, ◌<◌, ◌≤◌, ℕ, eqb, length, map, drop};
+ghost use Rattle.std.specs.Prelude.{◌≡◌, ◌+◌, ◌*◌, ◌<◌, ◌≤◌, ℕ, eqb, length, get_or, map, drop};
 ghost use Rattle.std.proofs.lemmas.List.Edits.{sets};
 ghost use Rattle.record.specs.Lists.{all, over, flat};
 ghost use Rattle.record.specs.Number.{number, numbers, bytes};
 ghost use Rattle.record.specs.Order.{compared};
-ghost use Rattle.record.specs.Node.{fields, words, size, row_size, node_at, row_at, node_bytes, class_of, bad as is_bad};
+ghost use Rattle.record.specs.Node.{fields, words, size, row_size, node_at, row_at, node_bytes, class_of, renumber, bad as is_bad};
 
 use std::cmp::Ordering;
 
@@ -216,6 +216,23 @@ pub fn bad(n: Node) -> bool
 {
     let unused = unused_are_zero(n.kids, n.count);
     (LAST_KIND < n.kind) | (FIELDS < n.count as usize) | ((n.kind < 2) & (0 < n.count)) | !unused
+}
+
+// The node with the numbers that `f` gives its children; kind, digest and the unused child fields stay.
+pub fn renumbered<F: Fn(u32) -> u32>(node: Node, f: F) -> Node
+    requires count_le_fields { node.count ≤ fields }
+    requires callable { (i : ℕ) → i < node.count → F.pre f (get_or node.kids i 0) }
+    ensures { (g : ℕ → ℕ) → ((i d : ℕ) → i < node.count → F.post f (get_or node.kids i 0) d → d ≡ g (get_or node.kids i 0)) → result ≡ renumber g node }
+{
+    let count = node.count as usize;
+    let mut kids = node.kids;
+    // Over all fields: a loop of fixed length keeps them in registers.
+    for (i, kid) in kids.iter_mut().enumerate() {
+        if i < count {
+            *kid = f(*kid);
+        }
+    }
+    Node { kids, ..node }
 }
 
 // Writes the record of a node as record `i`; all else stays.
