@@ -63,6 +63,7 @@ fn resolve(work: &mut [u32], n: usize, p: usize)
 }
 
 // Settles the id at place t of the order: each mention of it is counted off.
+#[tactic(auto, using(crate::proofs::Settling::next_is))]
 fn settle(nodes: &[u8], work: &mut [u32], n: usize, filled: usize, t: usize)
     requires standing { Standing nodes.now work.old n filled t }
     requires t_lt_filled { t < filled }
@@ -114,6 +115,7 @@ fn release(nodes: &[u8], work: &mut [u32], n: usize, begun: usize) -> usize
 }
 
 // Links the mentions that p makes, each to the one before it that names the same child; says how many they are.
+#[tactic(auto, using(crate::proofs::Enlisting::field_is))]
 fn link_kids(nodes: &[u8], work: &mut [u32], n: usize, p: usize) -> u32
     requires enlisted { Enlisted nodes.now work.old n p }
     requires p_lt_n { p < n }

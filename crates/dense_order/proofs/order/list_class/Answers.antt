@@ -15,36 +15,6 @@ kind_at-requires c = let z = c.requires.counted in omega arith
 pub loop-p-preserved-then-ne : goal.loop-p-preserved-then-ne
 loop-p-preserved-then-ne c = numbers_past c.loop-p.invariant c.loop-p-test.true (rw (← class_read (node_at c.args.nodes.now c.loop-p.p) c.kind_at.ensures c.class_of.ensures) (class_other _ _ (sym c.ne.ensures ∙ c.if-ne.true)))
 
-pub overflow_cast-work : goal.overflow_cast-work
-overflow_cast-work c =
-    let a = c.requires in
-    let m = c.loop-p.invariant in
-    omega (arith, a.few, a.fits, m.some, m.within, m.long)
-
-pub overflow_add-work : goal.overflow_add-work
-overflow_add-work c =
-    let a = c.requires in
-    let m = c.loop-p.invariant in
-    omega (arith, a.few, a.fits, m.some, m.within, m.long)
-
-pub offset_bounds-work-to : goal.offset_bounds-work-to
-offset_bounds-work-to c =
-    let a = c.requires in
-    let m = c.loop-p.invariant in
-    omega (arith, a.few, a.fits, m.some, m.within, m.long)
-
-pub bounds-work-to : goal.bounds-work-to
-bounds-work-to c =
-    let a = c.requires in
-    let m = c.loop-p.invariant in
-    omega (arith, a.few, a.fits, m.some, m.within, m.long)
-
-pub overflow_add-count : goal.overflow_add-count
-overflow_add-count c =
-    let a = c.requires in
-    let m = c.loop-p.invariant in
-    omega (arith, a.few, a.fits, m.some, m.within, m.long)
-
 pub loop-p-preserved : goal.loop-p-preserved
 loop-p-preserved c = numbers_on c.loop-p.invariant c.loop-p-test.true c.requires.fits (rw (← class_read (node_at c.args.nodes.now c.loop-p.p) c.kind_at.ensures c.class_of.ensures) (class_same _ _ (sym c.ne.ensures ∙ c.if-ne.false)))
 
