@@ -1,4 +1,4 @@
-use Rattle.std.proofs.Common.{ap, sym, ◌∙◌, ◌-◌, arith}
+use Rattle.std.proofs.Common.{ap, sym, ◌∙◌}
 use Rattle.record.proofs.Classes.{class_lt, class_read}
 use Rattle.dense_order.specs.Found.{check_of}
 use Rattle.dense_order.proofs.Faults.{fault_first, fault_next, fault_class, fault_digest, fault_forward}

@@ -16,7 +16,7 @@ pub new_id-requires : goal.new_id-requires
 new_id-requires c =
     let k : length c.args.node.kids ≡ fields = search rules in
     let p = c.requires.count_le_fields in
-    record { n_in_bounds = c.requires.n_in_bounds; placed = child_here c.loop-i.invariant c.if-i-count.true (omega arith) (Placed c.args.work.now c.args.n) c.requires.by_index }
+    child_here c.loop-i.invariant c.if-i-count.true (omega arith) (Placed c.args.marks.now) c.requires.by_index
 
 -- a child gets its new id, what is no child stays
 pub loop-i-preserved : goal.loop-i-preserved

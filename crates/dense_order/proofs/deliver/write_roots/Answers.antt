@@ -7,7 +7,7 @@ pub loop-i-init : goal.loop-i-init
 loop-i-init c = filled_start _ _ _ c.requires.out_len
 
 pub new_id-requires : goal.new_id-requires
-new_id-requires c = record { n_in_bounds = c.requires.n_in_bounds; placed = c.requires.by_index _ (get_d_mem c.args.roots.now c.loop-i.i 0 c.loop-i-test.true) }
+new_id-requires c = c.requires.by_index _ (get_d_mem c.args.roots.now c.loop-i.i 0 c.loop-i-test.true)
 
 pub bounds-out-i : goal.bounds-out-i
 bounds-out-i c = omega (arith, filled_long c.loop-i.invariant)

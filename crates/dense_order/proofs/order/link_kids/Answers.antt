@@ -1,6 +1,6 @@
 use native.Mathlib.Omega.{arith}
-use lib.ListN.{length, get_or, length-set}
-use Rattle.dense_order.proofs.Enlisting.{Field, chaining_start, field_is, field_linked, fields_linked, record_inside}
+use lib.ListN.{length-set}
+use Rattle.dense_order.proofs.Enlisting.{chaining_start, field_is, field_linked, fields_linked, record_inside}
 use Rattle.dense_order.proofs.order.link_kids.Goals as goal
 
 pub node_at-node-requires : goal.node_at-node-requires
