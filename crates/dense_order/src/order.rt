@@ -13,6 +13,7 @@ use record::{Class, FIELDS};
 
 // The sections of the work room, of n words each: the order from 0 on, the marks from n on, then these. The tree has two, the links one a
 // child field.
+// `n`, the number of nodes, goes along with the room: some functions are not lent the nodes, and a division in each call costs time.
 const HEADS: usize = 2;
 
 const COUNTS: usize = 3;
@@ -71,6 +72,7 @@ fn settle(nodes: &[u8], work: &mut [u32], n: usize, filled: usize, t: usize)
 {
     let id = work[t] as usize;
     let mut at = work[HEADS * n + id] as usize;
+    // A chain through the room, whose next place is read on the way: there is nothing to count or to go over.
     while 0 < at {
         let mention = at - 1;
         resolve(work, n, mention / FIELDS);

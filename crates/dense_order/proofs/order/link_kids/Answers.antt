@@ -22,8 +22,5 @@ bounds-work-head-in-loop-j c =
 pub loop-j-preserved : goal.loop-j-preserved
 loop-j-preserved c = field_linked c.requires.enlisted c.requires.p_lt_n c.node_at-node.ensures c.loop-j.invariant c.loop-j-test.true
 
-pub shape_of-work : goal.shape_of-work
-shape_of-work c = c.loop-j.invariant.long
-
 pub returns : goal.returns
 returns c = fields_linked c.requires.enlisted c.requires.p_lt_n c.node_at-node.ensures c.loop-j.invariant c.loop-j-test.false

@@ -49,8 +49,5 @@ loop-at-preserved c =
     let r = l.invariant.reach in
     settling_step _ c.requires.standing.stands x.id_below x.unsettled l.invariant c.loop-at-test.true c.resolve.auto.work c.resolve.ensures
 
-pub shape_of-work : goal.shape_of-work
-shape_of-work c = c.loop-at.invariant.long
-
 pub returns : goal.returns
 returns c = settles c.requires.standing c.requires.t_lt_filled c.loop-at.invariant c.loop-at-test.false
