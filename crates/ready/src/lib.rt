@@ -7,7 +7,6 @@ ghost use Rattle.record.specs.Lists.{run};
 ghost use Rattle.forest.specs.Lists.{lowest};
 ghost use Rattle.ready.specs.Tree.{words, word, member, Tree, Changed};
 
-
 // The bits of a word.
 const WIDTH: usize = 32;
 
