@@ -1,6 +1,6 @@
 -- Laws of an arranged forest's outputs: each id has a place in the order, its mark tells it, and what is written is the canonical forest.
 -- Assumes nothing.
-use Prim.Native.Nat.{ℕ, suc, ◌+◌, ◌*◌, ◌<◌, ◌≤◌}
+use Prim.Native.Nat.{ℕ, suc, ◌-◌, ◌*◌, ◌<◌, ◌≤◌}
 use mathlib.Core.Path.{◌≡◌, refl, sym, ◌∙◌, ap}
 use mathlib.Core.Bool.{not}
 use mathlib.Core.List.Memᴰ
@@ -9,7 +9,8 @@ use Rattle.std.specs.Prelude.{Option, Some, None}
 use native.Mathlib.Omega.{arith}
 use lib.Dec.{ltb, eqb}
 use borrow.Author.Tests.{ltb-true, not-false, eq-eqb}
-use lib.ListN.{length, get_or}
+use lib.ListN.{length, take, drop, get_or, length-take, length-drop}
+use lib.Seq.{get_or-take, get_or-drop}
 use Rattle.record.specs.Lists.{run, flat}
 use Rattle.record.specs.Node.{size, node_at, nodes_of, node_bytes, children, renumber}
 use Rattle.record.specs.declared.Node.{Node}
@@ -77,6 +78,10 @@ checked s rs e =
     let d = (first_none _ _ e4).0 in
     record { sound = a; near = naming_none _ _ b; inside = naming_none _ _ c; ended = naming_none _ _ d }
 
+-- the marks of the room's n ids
+abbrev pub marks_of : List ℕ → ℕ → List ℕ
+marks_of w n = take (2 * n - n) (drop n w)
+
 module _ {s rs w : List ℕ} {n : ℕ} (d : Deliverable s rs w n) where
   passes : Checked s rs
   passes = checked s rs d.passed
@@ -94,16 +99,19 @@ module _ {s rs w : List ℕ} {n : ℕ} (d : Deliverable s rs w n) where
   ordered : (p : ℕ) → p < n → Memᴰ p (order (nodes_of s))
   ordered p h = unreleased_all (nodes_of s) passes.ended p (let z = counted in omega arith)
 
-  mark_is : (p : ℕ) → p < n → get_or w (n + p) 0 ≡ suc (place_in (order (nodes_of s)) p)
-  mark_is p h = d.arranged.marks p h ∙ mark_place (order (nodes_of s)) p (ordered p h)
+  pub marks_long : length (marks_of w n) ≡ n
+  marks_long = let z = room_fits in omega (arith, length-take (2 * n - n) (drop n w), length-drop n w)
 
-  pub id_marked : (p : ℕ) → p < n → 0 < get_or w (n + p) 0
-  id_marked p h = let z = mark_is p h in omega arith
+  mark_is : (p : ℕ) → p < n → get_or (marks_of w n) p 0 ≡ suc (place_in (order (nodes_of s)) p)
+  mark_is p h = get_or-take (2 * n - n) (drop n w) p 0 (omega arith) ∙ get_or-drop n w p 0 ∙ d.arranged.marks p h ∙ mark_place (order (nodes_of s)) p (ordered p h)
 
-  id_placed : (p : ℕ) → p < n → Placed w n p
-  id_placed p h = (h, id_marked p h)
+  pub id_marked : (p : ℕ) → p < length (marks_of w n) → 0 < get_or (marks_of w n) p 0
+  id_marked p h = let z = mark_is p (let l = marks_long in omega arith) in omega arith
 
-  new_id_is : (p : ℕ) → p < n → new_id w n p ≡ place_in (order (nodes_of s)) p
+  id_placed : (p : ℕ) → p < n → Placed (marks_of w n) p
+  id_placed p h = let i : p < length (marks_of w n) = (let l = marks_long in omega arith) in (i, id_marked p i)
+
+  new_id_is : (p : ℕ) → p < n → new_id (marks_of w n) p ≡ place_in (order (nodes_of s)) p
   unfolding new_id
   new_id_is p h = let z = mark_is p h in omega arith
 
@@ -122,31 +130,33 @@ module _ {s rs w : List ℕ} {n : ℕ} (d : Deliverable s rs w n) where
       omega arith
 
   -- what the three writers want
-  pub root_placed : (r : ℕ) → Memᴰ r rs → Placed w n r
+  pub root_placed : (r : ℕ) → Memᴰ r rs → Placed (marks_of w n) r
   root_placed r m = id_placed r (root_below r m)
 
-  pub writable : {out : List ℕ} → length out ≡ size * n → Writable s w out n
+  ids_are : take n w ≡ order (nodes_of s)
+  unfolding span
+  ids_are = let z : n - 0 ≡ n = omega arith in rw z at d.arranged.whole
+
+  pub writable : {out : List ℕ} → length out ≡ size * n → Writable s (take n w) (marks_of w n) out
   writable e = record {
-    room = e;
-    fits = room_fits;
-    records = let z = d.whole in omega arith;
-    below = λ x m. order_ids x (rw (← d.arranged.whole) m);
-    few = walks.fit;
-    placed = λ p h c m. id_placed c (child_below p h c m);
+    room = let l : length (take n w) ≡ n = (let z = room_fits in omega (arith, length-take n w)) in omega arith;
+    inside = λ x m. let z = d.whole in let y = order_ids x (rw (← ids_are) m) in omega arith;
+    few = λ x m. walks.fit x (order_ids x (rw (← ids_are) m));
+    placed = λ x m c k. id_placed c (child_below x (order_ids x (rw (← ids_are) m)) c k);
   }
 
   -- what they write
-  nodes_are : map (moved s w n) (span w 0 n) ≡ arranged (nodes_of s) (order (nodes_of s))
+  nodes_are : map (moved s (marks_of w n)) (take n w) ≡ arranged (nodes_of s) (order (nodes_of s))
   unfolding arranged
-  nodes_are = rw d.arranged.whole (map_agree _ _ (order (nodes_of s)) (λ p m. moved_is p (order_ids p m)))
+  nodes_are = rw ids_are (map_agree _ _ (order (nodes_of s)) (λ p m. moved_is p (order_ids p m)))
     where
-      moved_is : (p : ℕ) → p < n → moved s w n p ≡ renumber (place_in (order (nodes_of s))) (at (nodes_of s) p)
+      moved_is : (p : ℕ) → p < n → moved s (marks_of w n) p ≡ renumber (place_in (order (nodes_of s))) (at (nodes_of s) p)
       moved_is p h = rw (node_is walks h) (renumber_agree _ _ (node_at s p) (λ c k. new_id_is c (child_below p h c k)))
 
-  pub delivered : {nodeOut rootOut idList : List ℕ} → nodeOut ≡ flat node_bytes (map (moved s w n) (span w 0 n)) → rootOut ≡ map (new_id w n) rs → idList ≡ map (new_id w n) (run 0 n) → Delivered s rs nodeOut rootOut idList
+  pub delivered : {nodeOut rootOut idList : List ℕ} → nodeOut ≡ flat node_bytes (map (moved s (marks_of w n)) (take n w)) → rootOut ≡ map (new_id (marks_of w n)) rs → idList ≡ map (new_id (marks_of w n)) (run 0 (length (marks_of w n))) → Delivered s rs nodeOut rootOut idList
   unfolding canonical ids
   delivered a b c = record {
     nodes = a ∙ ap (flat node_bytes) nodes_are;
     roots = b ∙ map_agree _ _ rs (λ r m. new_id_is r (root_below r m));
-    ids_are = c ∙ rw counted (map_agree _ _ (run 0 n) (λ p m. let (x, y) = run_in 0 n p m in new_id_is p (omega arith)));
+    ids_are = c ∙ rw (marks_long, counted) (map_agree _ _ (run 0 n) (λ p m. let (x, y) = run_in 0 n p m in new_id_is p (omega arith)));
   }

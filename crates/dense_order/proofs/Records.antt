@@ -1,21 +1,19 @@
 -- Laws of a loop that writes one record after the other, and of the nodes in their order.
 -- Assumes nothing.
 use Prim.Native.Nat.{ℕ, ◌+◌, ◌*◌, ◌<◌, ◌≤◌}
-use mathlib.Core.Path.{◌≡◌, refl, sym, ◌∙◌, ap}
+use mathlib.Core.Path.{◌≡◌, refl}
 use mathlib.Core.List.{List, [], ◌∷◌, ◌++◌, map, map-append, append-nil, append_assoc, Memᴰ}
 use native.Mathlib.Omega.{arith}
 use native.Mathlib.Numerals.{add-one}
-use lib.ListN.{length, take, drop, get_or, length-append, length-take, length-drop, drop_of_length-le}
-use lib.Seq.{take_all, take-suc, take_at, drop-append-add, drop-drop, length-take-le, get_or-take}
+use lib.ListN.{length, take, drop, get_or, length-append, length-drop, drop_of_length-le}
+use lib.Seq.{take_all, take-suc, take_at, drop-append-add, drop-drop, length-take-le}
 use Rattle.record.specs.Lists.{over, flat}
 use Rattle.record.specs.Node.{fields, size, node_at, node_bytes, children, renumber}
 use Rattle.record.specs.declared.Node.{Node}
 use Rattle.record.proofs.Lengths.{Full, length_node_bytes}
 use Rattle.record.proofs.Nodes.{full_read, full_renumber}
-use Rattle.room.specs.Sections.{span}
-use Rattle.room.proofs.Spans.{span_length, span_at}
 use Rattle.dense_order.specs.Marks.{new_id, Placed, Writable}
-use Rattle.dense_order.proofs.Marking.{span_mem}
+use Rattle.claims.specs.Searches.{get_d_mem}
 
 flat_append : {A B : Type 0} (f : A → List B) (a b : List A) → flat f (a ++ b) ≡ flat f a ++ flat f b
 unfolding flat
@@ -75,42 +73,31 @@ module _ {g : ℕ → Node} {ps out₀ out : List ℕ} {k : ℕ} (full : (p : �
 -- THE NODES IN THEIR ORDER ------------------------------------------------------------------------
 
 -- the node of id p with the new ids of its children
-abbrev pub moved : List ℕ → List ℕ → ℕ → ℕ → Node
-moved s w n p = renumber (new_id w n) (node_at s p)
+abbrev pub moved : List ℕ → List ℕ → ℕ → Node
+moved s m p = renumber (new_id m) (node_at s p)
 
-moved_full : (s w : List ℕ) (n p : ℕ) → Full (moved s w n p)
-moved_full s w n p = full_renumber (new_id w n) (node_at s p) (full_read s p)
+moved_full : (s m : List ℕ) (p : ℕ) → Full (moved s m p)
+moved_full s m p = full_renumber (new_id m) (node_at s p) (full_read s p)
 
-module _ {s w out₀ : List ℕ} {n : ℕ} (b : Writable s w out₀ n) where
-  order_long : length (span w 0 n) ≡ n
-  order_long = let f = b.fits in omega (arith, span_length w 0 n (omega arith))
+module _ {s o m out₀ : List ℕ} (b : Writable s o m out₀) where
+  pub moving_start : Wrote (moved s m) o out₀ out₀ 0
+  moving_start = wrote_start (moved s m) o out₀ (let a = b.room in omega arith)
 
-  pub moving_start : Wrote (moved s w n) (span w 0 n) out₀ out₀ 0
-  moving_start = wrote_start (moved s w n) (span w 0 n) out₀ (let a = b.room in let l = order_long in omega arith)
+  -- the record of the id that is looked at is there, and its node can be renumbered
+  module _ {k : ℕ} (h : k < length o) where
+    pub moving_inside : size * get_or o k 0 + size ≤ length s
+    moving_inside = b.inside (get_or o k 0) (get_d_mem o k 0 h)
 
-  -- the word that is looked at is an id, and its node can be renumbered
-  module _ {k : ℕ} (h : k < length (take n w)) where
-    word : (k < n) × (get_or (take n w) k 0 ≡ get_or w k 0)
-    word = let i : k < n = omega (arith, length-take n w) in (i, get_or-take n w k 0 i)
+    pub moving_ready : (node : Node) → node ≡ node_at s (get_or o k 0) → (node.count ≤ fields) × ((c : ℕ) → Memᴰ c (children node) → Placed m c)
+    moving_ready node e = let i = get_d_mem o k 0 h in rw e (b.few (get_or o k 0) i, b.placed (get_or o k 0) i)
 
-    pub moving_below : get_or (take n w) k 0 < n
-    moving_below = let f = b.fits in rw word.1 (b.below (get_or w k 0) (span_mem w n k word.0 (omega arith)))
-
-    pub moving_ready : (node : Node) → node ≡ node_at s (get_or (take n w) k 0) → (node.count ≤ fields) × ((2 * n ≤ length w) × ((c : ℕ) → Memᴰ c (children node) → Placed w n c))
-    moving_ready node e = let x = get_or (take n w) k 0 in rw e (b.few x moving_below, (b.fits, b.placed x moving_below))
-
-  module _ {out : List ℕ} {k : ℕ} (r : Wrote (moved s w n) (span w 0 n) out₀ out k) where
+  module _ {out : List ℕ} {k : ℕ} (r : Wrote (moved s m) o out₀ out k) where
     pub moving_long : length out ≡ length out₀
-    moving_long = wrote_long (moved_full s w n) r
+    moving_long = wrote_long (moved_full s m) r
 
-    pub moving_step : {out₁ : List ℕ} (node new : Node) → k < length (take n w) → node ≡ node_at s (get_or (take n w) k 0) → new ≡ renumber (new_id w n) node → out₁ ≡ over out (size * k) (node_bytes new)
-        → Wrote (moved s w n) (span w 0 n) out₀ out₁ (k + 1)
-    moving_step node new h e f q =
-        let z : 0 + k ≡ k = omega arith in
-        let (i, v) = word h in
-        let a : get_or (span w 0 n) k 0 ≡ get_or (take n w) k 0 = span_at w 0 n k (omega arith) ∙ ap (λ (i : ℕ). get_or w i 0) z ∙ sym v in
-        let l = order_long in
-        wrote_step (moved_full s w n) r (omega arith) (rw (q, f, e, a))
+    pub moving_step : {out₁ : List ℕ} (node new : Node) → k < length o → node ≡ node_at s (get_or o k 0) → new ≡ renumber (new_id m) node → out₁ ≡ over out (size * k) (node_bytes new)
+        → Wrote (moved s m) o out₀ out₁ (k + 1)
+    moving_step node new h e f q = wrote_step (moved_full s m) r h (rw (q, f, e))
 
-    pub moving_end : length (take n w) ≤ k → out ≡ flat node_bytes (map (moved s w n) (span w 0 n))
-    moving_end h = let l = order_long in let f = b.fits in let t : length (take n w) ≡ n = omega (arith, length-take n w) in wrote_end (moved_full s w n) r (omega arith) (rw order_long b.room)
+    pub moving_end : length o ≤ k → out ≡ flat node_bytes (map (moved s m) o)
+    moving_end h = wrote_end (moved_full s m) r h b.room

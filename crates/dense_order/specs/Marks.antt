@@ -13,12 +13,12 @@ unfoldable pub mark_of : List ℕ → ℕ → ℕ
 mark_of o p = elim (lowest (eqb p) o) [ None ↦ 0 | Some i ↦ suc i ]
 
 -- the new id that the mark of c gives
-unfoldable pub new_id : List ℕ → ℕ → ℕ → ℕ
-new_id w n c = get_or w (n + c) 0 - 1
+unfoldable pub new_id : List ℕ → ℕ → ℕ
+new_id m c = get_or m c 0 - 1
 
--- c is an id that has a place
-abbrev pub Placed : List ℕ → ℕ → ℕ → Type 0
-Placed w n c = (c < n) × (0 < get_or w (n + c) 0)
+-- c is an id that has a place, by the marks m
+abbrev pub Placed : List ℕ → ℕ → Type 0
+Placed m c = (c < length m) × (0 < get_or m c 0)
 
 -- the first `filled` words are different ids below n, and none of the n ids is marked
 pub record Unmarked (w : List ℕ) (n filled : ℕ) : Type 0 where
@@ -34,11 +34,9 @@ pub record Marked (w w' : List ℕ) (n filled : ℕ) : Type 0 where
   pub marks : (p : ℕ) → p < n → get_or w' (n + p) 0 ≡ mark_of (span w 0 filled) p
   pub rest : (y : ℕ) → Out y n n → get_or w' y 0 ≡ get_or w y 0
 
--- n records can be written: the first n words are ids below n, and each child of each of the n nodes has a place
-pub record Writable (s w out : List ℕ) (n : ℕ) : Type 0 where
-  pub room : length out ≡ size * n
-  pub fits : 2 * n ≤ length w
-  pub records : size * n ≤ length s
-  pub below : (x : ℕ) → Memᴰ x (span w 0 n) → x < n
-  pub few : (p : ℕ) → p < n → (node_at s p).count ≤ fields
-  pub placed : (p : ℕ) → p < n → (c : ℕ) → Memᴰ c (children (node_at s p)) → Placed w n c
+-- the records of the ids o can be written: they are there, and each child of each has a place by the marks m
+pub record Writable (s o m out : List ℕ) : Type 0 where
+  pub room : length out ≡ size * length o
+  pub inside : (x : ℕ) → Memᴰ x o → size * x + size ≤ length s
+  pub few : (x : ℕ) → Memᴰ x o → (node_at s x).count ≤ fields
+  pub placed : (x : ℕ) → Memᴰ x o → (c : ℕ) → Memᴰ c (children (node_at s x)) → Placed m c

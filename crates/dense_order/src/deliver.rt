@@ -31,20 +31,18 @@ pub(crate) fn first_unplaced(work: &[u32], n: usize) -> Option<usize>
 }
 
 // The new id of c: 1 less than its mark.
-fn new_id(work: &[u32], n: usize, c: usize) -> u32
-    requires n_in_bounds { 2 * n ≤ length work.now }
-    requires placed { Placed work.now n c }
-    ensures { result ≡ new_id work.now n c }
+fn new_id(marks: &[u32], c: usize) -> u32
+    requires { Placed marks.now c }
+    ensures { result ≡ new_id marks.now c }
 {
-    work[n + c] - 1
+    marks[c] - 1
 }
 
 // The node with the new ids of its children; kind, digest and the unused child fields stay.
-fn renumbered(node: Node, work: &[u32], n: usize) -> Node
+fn renumbered(node: Node, marks: &[u32]) -> Node
     requires count_le_fields { node.count ≤ fields }
-    requires n_in_bounds { 2 * n ≤ length work.now }
-    requires by_index { (c : ℕ) → Memᴰ c (children node) → Placed work.now n c }
-    ensures { result ≡ renumber (new_id work.now n) node }
+    requires by_index { (c : ℕ) → Memᴰ c (children node) → Placed marks.now c }
+    ensures { result ≡ renumber (new_id marks.now) node }
 {
     let count = node.count as usize;
     let mut kids = node.kids;
@@ -52,7 +50,7 @@ fn renumbered(node: Node, work: &[u32], n: usize) -> Node
     // Over all fields: a loop of fixed length keeps them in registers.
     for (i, kid) in kids.iter_mut().enumerate() {
         if i < count {
-            *kid = new_id(work, n, *kid as usize);
+            *kid = new_id(marks, *kid as usize);
         }
     }
     Node {
@@ -63,38 +61,36 @@ fn renumbered(node: Node, work: &[u32], n: usize) -> Node
     }
 }
 
-// Writes the records of the n nodes in their order, with the new ids of their children: they fill `out`.
-pub(crate) fn write_nodes(nodes: &[u8], work: &[u32], n: usize, out: &mut [u8])
-    requires { Writable nodes.now work.now out.old n }
-    ensures { out.new ≡ flat node_bytes (map (λ p. renumber (new_id work.now n) (node_at nodes.now p)) (span work.now 0 n)) }
+// Writes the records of the nodes in their order, with the new ids of their children: they fill `out`.
+fn write_nodes(nodes: &[u8], order: &[u32], marks: &[u32], out: &mut [u8])
+    requires { Writable nodes.now order.now marks.now out.old }
+    ensures { out.new ≡ flat node_bytes (map (λ p. renumber (new_id marks.now) (node_at nodes.now p)) order.now) }
 {
-    for (k, id) in work[..n].iter().enumerate() {
+    for (k, id) in order.iter().enumerate() {
         let node = record::node_at(nodes, *id as usize);
-        record::put_node(out, k, renumbered(node, work, n));
+        record::put_node(out, k, renumbered(node, marks));
     }
 }
 
 // Writes the new ids of the roots: they fill `out`.
-pub(crate) fn write_roots(roots: &[u32], work: &[u32], n: usize, out: &mut [u32])
+fn write_roots(roots: &[u32], marks: &[u32], out: &mut [u32])
     requires out_len { length out.old ≡ length roots.now }
-    requires n_in_bounds { 2 * n ≤ length work.now }
-    requires by_index { (r : ℕ) → Memᴰ r roots.now → Placed work.now n r }
-    ensures { out.new ≡ map (new_id work.now n) roots.now }
+    requires by_index { (r : ℕ) → Memᴰ r roots.now → Placed marks.now r }
+    ensures { out.new ≡ map (new_id marks.now) roots.now }
 {
     for (i, root) in roots.iter().enumerate() {
-        out[i] = new_id(work, n, *root as usize);
+        out[i] = new_id(marks, *root as usize);
     }
 }
 
-// Writes the new id of each id below n: they fill `ids`.
-pub(crate) fn write_ids(work: &[u32], n: usize, ids: &mut [u32])
-    requires ids_len { length ids.old ≡ n }
-    requires n_in_bounds { 2 * n ≤ length work.now }
-    requires by_index { (p : ℕ) → p < n → 0 < get_or work.now (n + p) 0 }
-    ensures { ids.new ≡ map (new_id work.now n) (run 0 n) }
+// Writes the new id of each id: they fill `ids`.
+fn write_ids(marks: &[u32], ids: &mut [u32])
+    requires ids_len { length ids.old ≡ length marks.now }
+    requires by_index { (p : ℕ) → p < length marks.now → 0 < get_or marks.now p 0 }
+    ensures { ids.new ≡ map (new_id marks.now) (run 0 (length marks.now)) }
 {
     for (p, id) in ids.iter_mut().enumerate() {
-        *id = new_id(work, n, p);
+        *id = new_id(marks, p);
     }
 }
 
@@ -112,7 +108,9 @@ pub(crate) fn deliver(
     requires node_out_len { (length node_out.old ≡ size * n) × ((length root_out.old ≡ length roots.now) × (length ids.old ≡ n)) }
     ensures { Delivered nodes.now roots.now node_out.new root_out.new ids.new }
 {
-    write_nodes(nodes, work, n, node_out);
-    write_roots(roots, work, n, root_out);
-    write_ids(work, n, ids);
+    let order = &work[..n];
+    let marks = &work[n..2 * n];
+    write_nodes(nodes, order, marks, node_out);
+    write_roots(roots, marks, root_out);
+    write_ids(marks, ids);
 }

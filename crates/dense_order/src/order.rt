@@ -13,6 +13,7 @@ use record::{Class, FIELDS};
 
 // The sections of the work room, of n words each: the order from 0 on, the marks from n on, then these. The tree has two, the links one a
 // child field.
+// `n`, the number of nodes, goes along with the room: some functions are not lent the nodes, and a division in each call costs time.
 const HEADS: usize = 2;
 
 const COUNTS: usize = 3;
@@ -64,6 +65,7 @@ fn resolve(work: &mut [u32], n: usize, p: usize)
 }
 
 // Settles the id at place t of the order: each mention of it is counted off.
+#[tactic(auto, using(crate::proofs::Settling::next_is))]
 fn settle(nodes: &[u8], work: &mut [u32], n: usize, filled: usize, t: usize)
     requires standing { Standing nodes.now work.old n filled t }
     requires t_lt_filled { t < filled }
@@ -71,6 +73,7 @@ fn settle(nodes: &[u8], work: &mut [u32], n: usize, filled: usize, t: usize)
 {
     let id = work[t] as usize;
     let mut at = work[HEADS * n + id] as usize;
+    // A chain through the room, whose next place is read on the way: there is nothing to count or to go over.
     while 0 < at {
         let mention = at - 1;
         resolve(work, n, mention / FIELDS);
@@ -115,6 +118,7 @@ fn release(nodes: &[u8], work: &mut [u32], n: usize, begun: usize) -> usize
 }
 
 // Links the mentions that p makes, each to the one before it that names the same child; says how many they are.
+#[tactic(auto, using(crate::proofs::Enlisting::field_is))]
 fn link_kids(nodes: &[u8], work: &mut [u32], n: usize, p: usize) -> u32
     requires enlisted { Enlisted nodes.now work.old n p }
     requires p_lt_n { p < n }

@@ -1,36 +1,16 @@
-use native.Mathlib.Omega.{arith}
-use lib.ListN.{length-take}
-use Rattle.dense_order.proofs.Records.{moving_start, moving_below, moving_ready, moving_long, moving_step, moving_end}
+use Rattle.dense_order.proofs.Records.{moving_start, moving_inside, moving_ready, moving_step}
 use Rattle.dense_order.proofs.deliver.write_nodes.Goals as goal
 
 pub loop-k-init : goal.loop-k-init
 loop-k-init c = moving_start c.requires
 
 pub node_at-node-requires : goal.node_at-node-requires
-node_at-node-requires c = let r = c.requires.records in omega (arith, moving_below c.requires c.loop-k-test.true)
+node_at-node-requires c = moving_inside c.requires c.loop-k-test.true
 
 pub renumbered-requires : goal.renumbered-requires
 renumbered-requires c =
     let m = moving_ready c.requires c.loop-k-test.true _ c.node_at-node.ensures in
-    record { count_le_fields = m.0; n_in_bounds = m.1.0; by_index = m.1.1 }
-
-pub put_node-requires : goal.put_node-requires
-put_node-requires c = let r = c.requires.room in omega (arith, length-take c.args.n c.args.work.now, moving_long c.requires c.loop-k.invariant)
+    record { count_le_fields = m.0; by_index = m.1 }
 
 pub loop-k-preserved : goal.loop-k-preserved
-loop-k-preserved c =
-    moving_step
-    c.requires
-    c.loop-k.invariant
-    _
-    _
-    c.loop-k-test.true
-    c.node_at-node.ensures
-    c.renumbered.ensures
-    c.put_node.ensures
-
-pub shape_of-out : goal.shape_of-out
-shape_of-out c = moving_long c.requires c.loop-k.invariant
-
-pub returns : goal.returns
-returns c = moving_end c.requires c.loop-k.invariant c.loop-k-test.false
+loop-k-preserved c = moving_step c.requires c.loop-k.invariant _ _ c.loop-k-test.true c.node_at-node.ensures c.renumbered.ensures c.put_node.ensures

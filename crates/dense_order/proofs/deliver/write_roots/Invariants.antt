@@ -3,4 +3,4 @@ use Rattle.dense_order.proofs.Filling.{Filled}
 use Rattle.dense_order.proofs.deliver.write_roots.Given as goal
 
 abbrev pub invariant-loop-i : goal.invariant-loop-i
-invariant-loop-i l = Filled (new_id l.work l.n) l.roots l.initial.out l.out l.i
+invariant-loop-i l = Filled (new_id l.marks) l.roots l.initial.out l.out l.i

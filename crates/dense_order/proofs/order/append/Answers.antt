@@ -1,6 +1,4 @@
-use mathlib.Core.Path.{◌∙◌}
 use native.Mathlib.Omega.{arith}
-use lib.ListN.{length-set}
 use Rattle.dense_order.proofs.Appending.{standing_now, appends}
 use Rattle.dense_order.proofs.order.append.Goals as goal
 
@@ -8,9 +6,6 @@ pub settle-requires : goal.settle-requires
 settle-requires c =
     let e = c.remove in
     record { standing = standing_now c.requires.standing c.requires.p_lt_n.0 c.requires.p_lt_n.1 c.requires.p_value e.ensures e.auto.work; t_lt_filled = omega arith }
-
-pub shape_of-work : goal.shape_of-work
-shape_of-work c = c.settle.auto.work ∙ (simp length-set c.remove.auto.work)
 
 pub returns : goal.returns
 returns c =

@@ -9,8 +9,5 @@ enlist_all-requires c =
     let k = c.list_class-blocks in
     fresh_blocks c.requires.fair c.requires.n_in_bounds c.requires.externals k.auto.work k.ensures
 
-pub settle_all-requires : goal.settle_all-requires
-settle_all-requires c = c.enlist_all.ensures.standing
-
 pub returns : goal.returns
 returns c = begins c.enlist_all.ensures c.settle_all.ensures

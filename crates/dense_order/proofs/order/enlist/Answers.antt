@@ -1,6 +1,5 @@
 use mathlib.Core.Path.{◌≡◌, ap, ◌∙◌}
 use mathlib.Core.Bool.{not}
-use lib.ListN.{length-set}
 use Rattle.record.specs.Node.{class, is_internal, node_at}
 use Rattle.record.specs.declared.Class.TheVariants.{Internal}
 use Rattle.record.proofs.Classes.{class_eq, class_read}
@@ -25,9 +24,6 @@ pub put-requires : goal.put-requires
 put-requires c =
     let l = c.link_kids-count in
     record { i_lt_n = c.requires.p_lt_n; tree = (tree_counted c.requires.enlisted c.requires.p_lt_n l.ensures l.auto.work).0 }
-
-pub shape_of-work : goal.shape_of-work
-shape_of-work c = c.put.auto.work ∙ simp length-set c.link_kids-count.auto.work
 
 pub returns : goal.returns
 returns c =

@@ -6,17 +6,11 @@ use Rattle.dense_order.proofs.order.enlist_all.Goals as goal
 pub loop-p-init : goal.loop-p-init
 loop-p-init c = (omega arith, refl, (λ y h. refl), enlisted_start c.requires)
 
-pub enlist-requires : goal.enlist-requires
-enlist-requires c = record { enlisted = c.loop-p.invariant.3; p_lt_n = c.loop-p-test.true }
-
 pub loop-p-preserved : goal.loop-p-preserved
 loop-p-preserved c =
     let l = c.loop-p.invariant in
     let e = c.enlist in
     (omega arith, e.auto.work ∙ l.1, (λ y h. e.ensures.rest y h ∙ l.2 y h), e.ensures.enlisted)
-
-pub shape_of-work : goal.shape_of-work
-shape_of-work c = c.loop-p.invariant.1
 
 pub returns : goal.returns
 returns c =

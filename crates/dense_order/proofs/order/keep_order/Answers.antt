@@ -7,25 +7,10 @@ use Rattle.dense_order.proofs.order.keep_order.Goals as goal
 pub loop-p-init : goal.loop-p-init
 loop-p-init c = (refl, (omega arith, kept_start _ _))
 
-pub offset_bounds-work-p : goal.offset_bounds-work-p
-offset_bounds-work-p c = let z = c.requires.0 in let y = c.loop-p.invariant.0 in omega arith
-
-pub bounds-work-p : goal.bounds-work-p
-bounds-work-p c = let z = c.requires.0 in let y = c.loop-p.invariant.0 in omega arith
-
-pub offset_bounds-work-n : goal.offset_bounds-work-n
-offset_bounds-work-n c = let z = c.requires.0 in let y = c.loop-p.invariant.0 in omega arith
-
-pub bounds-work-n : goal.bounds-work-n
-bounds-work-n c = let z = c.requires.0 in let y = c.loop-p.invariant.0 in simp length-set (omega arith)
-
 pub loop-p-preserved : goal.loop-p-preserved
 loop-p-preserved c =
     let l = c.loop-p.invariant in
     (simp length-set l.0, (omega arith, kept_next l.1.1 c.loop-p-test.true (let z = c.requires.0 in let y = l.0 in omega arith)))
-
-pub shape_of-work : goal.shape_of-work
-shape_of-work c = c.loop-p.invariant.0
 
 pub returns : goal.returns
 returns c = kept_all c.loop-p.invariant.1.0 c.loop-p-test.false c.loop-p.invariant.1.1

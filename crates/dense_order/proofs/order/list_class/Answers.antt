@@ -1,5 +1,4 @@
 use mathlib.Core.Path.{sym, ◌∙◌}
-use native.Mathlib.Omega.{arith}
 use Rattle.record.specs.Node.{node_at}
 use Rattle.record.proofs.Classes.{class_read, class_other, class_same}
 use Rattle.sorting.proofs.Keeping.{keeping_start, numbers_past, numbers_on}
@@ -9,47 +8,11 @@ use Rattle.dense_order.proofs.order.list_class.Goals as goal
 pub loop-p-init : goal.loop-p-init
 loop-p-init c = keeping_start _ _ _ _
 
-pub kind_at-requires : goal.kind_at-requires
-kind_at-requires c = let z = c.requires.counted in omega arith
-
 pub loop-p-preserved-then-ne : goal.loop-p-preserved-then-ne
 loop-p-preserved-then-ne c = numbers_past c.loop-p.invariant c.loop-p-test.true (rw (← class_read (node_at c.args.nodes.now c.loop-p.p) c.kind_at.ensures c.class_of.ensures) (class_other _ _ (sym c.ne.ensures ∙ c.if-ne.true)))
 
-pub overflow_cast-work : goal.overflow_cast-work
-overflow_cast-work c =
-    let a = c.requires in
-    let m = c.loop-p.invariant in
-    omega (arith, a.few, a.fits, m.some, m.within, m.long)
-
-pub overflow_add-work : goal.overflow_add-work
-overflow_add-work c =
-    let a = c.requires in
-    let m = c.loop-p.invariant in
-    omega (arith, a.few, a.fits, m.some, m.within, m.long)
-
-pub offset_bounds-work-to : goal.offset_bounds-work-to
-offset_bounds-work-to c =
-    let a = c.requires in
-    let m = c.loop-p.invariant in
-    omega (arith, a.few, a.fits, m.some, m.within, m.long)
-
-pub bounds-work-to : goal.bounds-work-to
-bounds-work-to c =
-    let a = c.requires in
-    let m = c.loop-p.invariant in
-    omega (arith, a.few, a.fits, m.some, m.within, m.long)
-
-pub overflow_add-count : goal.overflow_add-count
-overflow_add-count c =
-    let a = c.requires in
-    let m = c.loop-p.invariant in
-    omega (arith, a.few, a.fits, m.some, m.within, m.long)
-
 pub loop-p-preserved : goal.loop-p-preserved
 loop-p-preserved c = numbers_on c.loop-p.invariant c.loop-p-test.true c.requires.fits (rw (← class_read (node_at c.args.nodes.now c.loop-p.p) c.kind_at.ensures c.class_of.ensures) (class_same _ _ (sym c.ne.ensures ∙ c.if-ne.false)))
-
-pub shape_of-work : goal.shape_of-work
-shape_of-work c = c.loop-p.invariant.long
 
 pub returns : goal.returns
 returns c = gathered _ c.requires c.loop-p.invariant c.loop-p-test.false

@@ -7,15 +7,6 @@ use Rattle.dense_order.proofs.order.release.Goals as goal
 pub loop-filled-init : goal.loop-filled-init
 loop-filled-init c = (refl, releasing_start c.requires)
 
-pub overflow_mul-n : goal.overflow_mul-n
-overflow_mul-n c = let x = c.loop-filled.invariant.1.standing.stands in omega (arith, x.fair.few)
-
-pub lowest-requires : goal.lowest-requires
-lowest-requires c = record { le_n = omega arith; tree = c.loop-filled.invariant.1.standing.stands.counts.tree }
-
-pub shape_of-work-in_default : goal.shape_of-work-in_default
-shape_of-work-in_default c = c.loop-filled.invariant.0
-
 pub returns-in_default : goal.returns-in_default
 returns-in_default c = releasing_none c.loop-filled.invariant.1 (sym c.lowest.ensures ∙ (search rules))
 
@@ -30,9 +21,6 @@ loop-filled-preserved c =
     let l = c.loop-filled.invariant in
     let a = c.append in
     (a.auto.work ∙ l.0, releasing_step l.1 (sym c.lowest.ensures ∙ (search rules)) c.loop-filled-test.true a.ensures)
-
-pub shape_of-work : goal.shape_of-work
-shape_of-work c = c.loop-filled.invariant.0
 
 pub returns : goal.returns
 returns c =

@@ -1,5 +1,3 @@
-use mathlib.Core.Path.{◌∙◌}
-use lib.ListN.{length-set}
 use Rattle.dense_order.proofs.Counting.{count_placed, stored_tree, resolved_some, resolved_last}
 use Rattle.dense_order.proofs.order.resolve.Goals as goal
 
@@ -14,9 +12,6 @@ returns-then-left-gt0 c = resolved_some c.args.work.now c.args.n c.args.p c.requ
 
 pub put-requires : goal.put-requires
 put-requires c = record { i_lt_n = c.requires.p_lt_n.0; tree = (stored_tree c.args.work.now c.args.n c.args.p c.requires.p_lt_n.0 c.requires.nonzero c.requires.tree).0 }
-
-pub shape_of-work : goal.shape_of-work
-shape_of-work c = c.put.auto.work ∙ simp length-set
 
 pub returns : goal.returns
 returns c = resolved_last c.args.work.now c.args.n c.args.p c.requires.p_lt_n.0 c.requires.nonzero c.requires.tree _ c.if-left-gt0.false c.put.ensures
