@@ -5,8 +5,8 @@ use mathlib.Core.Path.{◌≡◌, refl}
 use mathlib.Core.List.{List, [], ◌∷◌, ◌++◌, map, map-append, append-nil, append_assoc, Memᴰ}
 use native.Mathlib.Omega.{arith}
 use native.Mathlib.Numerals.{add-one}
-use lib.ListN.{length, take, drop, get_or, length-append, length-drop, drop_of_length-le}
-use lib.Seq.{take_all, take-suc, take_at, drop-append-add, drop-drop, length-take-le}
+use lib.ListN.{length, take, drop, get_or, length-append, length-drop, length-take, drop_of_length-le}
+use lib.Seq.{get_or-take, take_all, take-suc, take_at, drop-append-add, drop-drop, length-take-le}
 use Rattle.record.specs.Lists.{over, flat}
 use Rattle.record.specs.Node.{fields, size, node_at, node_bytes, children, renumber}
 use Rattle.record.specs.declared.Node.{Node}
@@ -76,6 +76,11 @@ module _ {g : ℕ → Node} {ps out₀ out : List ℕ} {k : ℕ} (full : (p : �
 abbrev pub moved : List ℕ → List ℕ → ℕ → Node
 moved s m p = renumber (new_id m) (node_at s p)
 
+-- a child field below the count is one of the children
+pub child_in : (n : Node) (j : ℕ) → j < n.count → n.count ≤ length n.kids → Memᴰ (get_or n.kids j 0) (children n)
+unfolding children
+child_in n j h k = rw (← (get_or-take n.count n.kids j 0 h)) (get_d_mem (take n.count n.kids) j 0 (omega (arith, length-take n.count n.kids)))
+
 moved_full : (s m : List ℕ) (p : ℕ) → Full (moved s m p)
 moved_full s m p = full_renumber (new_id m) (node_at s p) (full_read s p)
 
@@ -88,8 +93,11 @@ module _ {s o m out₀ : List ℕ} (b : Writable s o m out₀) where
     pub moving_inside : size * get_or o k 0 + size ≤ length s
     moving_inside = b.inside (get_or o k 0) (get_d_mem o k 0 h)
 
-    pub moving_ready : (node : Node) → node ≡ node_at s (get_or o k 0) → (node.count ≤ fields) × ((c : ℕ) → Memᴰ c (children node) → Placed m c)
-    moving_ready node e = let i = get_d_mem o k 0 h in rw e (b.few (get_or o k 0) i, b.placed (get_or o k 0) i)
+    pub moving_ready : (node : Node) → node ≡ node_at s (get_or o k 0) → (node.count ≤ fields) × ((j : ℕ) → j < node.count → Placed m (get_or node.kids j 0))
+    moving_ready node e =
+        let i = get_d_mem o k 0 h in
+        let f = b.few (get_or o k 0) i in
+        rw e (f, λ j l. b.placed (get_or o k 0) i _ (child_in (node_at s (get_or o k 0)) j l (omega (arith, f, (full_read s (get_or o k 0)).kids_long))))
 
   module _ {out : List ℕ} {k : ℕ} (r : Wrote (moved s m) o out₀ out k) where
     pub moving_long : length out ≡ length out₀

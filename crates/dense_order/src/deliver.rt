@@ -9,8 +9,6 @@ ghost use Rattle.room.specs.Sections.{span};
 ghost use Rattle.dense_order.specs.Marks.{new_id, Placed, Unmarked, Marked, Writable};
 ghost use Rattle.dense_order.specs.Steps.{Deliverable, Delivered};
 
-use record::{FIELDS, Node};
-
 // Marks the place of each of the first `filled` ids of the order; leaves every word but the n marks alone.
 pub(crate) fn mark_places(work: &mut [u32], n: usize, filled: usize)
     requires { Unmarked work.old n filled }
@@ -38,29 +36,6 @@ fn new_id(marks: &[u32], c: usize) -> u32
     marks[c] - 1
 }
 
-// The node with the new ids of its children; kind, digest and the unused child fields stay.
-fn renumbered(node: Node, marks: &[u32]) -> Node
-    requires count_le_fields { node.count ≤ fields }
-    requires by_index { (c : ℕ) → Memᴰ c (children node) → Placed marks.now c }
-    ensures { result ≡ renumber (new_id marks.now) node }
-{
-    let count = node.count as usize;
-    let mut kids = node.kids;
-    let digest = node.digest;
-    // Over all fields: a loop of fixed length keeps them in registers.
-    for (i, kid) in kids.iter_mut().enumerate() {
-        if i < count {
-            *kid = new_id(marks, *kid as usize);
-        }
-    }
-    Node {
-        kind: node.kind,
-        count: node.count,
-        kids,
-        digest,
-    }
-}
-
 // Writes the records of the nodes in their order, with the new ids of their children: they fill `out`.
 fn write_nodes(nodes: &[u8], order: &[u32], marks: &[u32], out: &mut [u8])
     requires { Writable nodes.now order.now marks.now out.old }
@@ -68,7 +43,11 @@ fn write_nodes(nodes: &[u8], order: &[u32], marks: &[u32], out: &mut [u8])
 {
     for (k, id) in order.iter().enumerate() {
         let node = record::node_at(nodes, *id as usize);
-        record::put_node(out, k, renumbered(node, marks));
+        let kid_id = |kid: u32| -> u32
+            requires { Placed marks.now kid }
+            ensures { result ≡ new_id marks.entry.now kid }
+        { new_id(marks, kid as usize) };
+        record::put_node(out, k, record::renumbered(node, kid_id));
     }
 }
 
