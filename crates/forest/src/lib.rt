@@ -42,7 +42,7 @@ fn row(number: u32, first: u64, second: u64) -> Told
     }
 }
 
-// A reply's number and its two values.
+// A reply's number and its two values. Contracts and pages have it by this name, so it is no `From`.
 pub fn tell(reply: Reply) -> Told
     ensures { result ≡ told reply }
 {

@@ -75,7 +75,8 @@ impl Table<'_> {
         at
     }
 
-    // The place behind the row that has position p, from a place that is not past it.
+    // The place behind the row that has position p, from a place that is not past it: rows are passed until one reaches it, none is counted.
+    // It has its like for roots: the field that is held against the number is all that differs, and Rattle has no parameter for a field.
     pub(crate) fn at_node(&self, from: Cursor, p: usize) -> Cursor
         requires to_node { ToNode self.now from p }
         requires p_bound { p < node_sum self.now }

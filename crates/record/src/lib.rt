@@ -56,7 +56,7 @@ pub fn u32_at(s: &[u8], at: usize) -> u32
     u32::from_le_bytes([s[at], s[at + 1], s[at + 2], s[at + 3]])
 }
 
-// The number in the eight bytes from `at` on, the lowest first.
+// The number in the eight bytes from `at` on, the lowest first. It and `u32_at` are public by these names, and `Word` reads by them.
 pub fn u64_at(s: &[u8], at: usize) -> u64
     requires { at + 8 ≤ length s.now }
     ensures { result ≡ number 8 s.now at }
