@@ -7,7 +7,7 @@ use native.Mathlib.Omega.{arith}
 use Rattle.std.proofs.lemmas.Bool.{lt-ltb, le-ltb}
 use lib.ListN.{length, get_or, set}
 use Rattle.dense_order.proofs.Filling.{Filled, filled_here, filled_step}
-use Rattle.merger.specs.Rooms.{id_on, Movable, moved}
+use Rattle.merger.specs.Rooms.{Movable, moved}
 
 pub moved_low : (l : List ℕ) (v : ℕ) → v < 2 → v ≡ moved l v
 unfolding moved

@@ -1,6 +1,6 @@
 -- Laws of the result in a room that is cut, step by step: the order, the places of ids, the ids carried through it, the roots.
 -- Assumes nothing.
-use Prim.Native.Nat.{ℕ, ◌+◌, ◌-◌, ◌<◌, ◌≤◌}
+use Prim.Native.Nat.{ℕ, ◌+◌, ◌-◌, ◌<◌}
 use mathlib.Core.Path.{◌≡◌, refl, sym, ◌∙◌, ap}
 use mathlib.Core.List.{List, [], ◌++◌, map, Memᴰ, append-nil}
 use Rattle.std.specs.Prelude.{Option, Some, None}

@@ -1,4 +1,3 @@
-use Prim.Native.Nat.{◌≤◌}
 use native.Mathlib.Omega.{arith}
 use Rattle.merger.proofs.Lining.{classes_long, sort_room, blocks_room, internals_room, arranged}
 use Rattle.merger.proofs.result.arrange.Goals as goal
