@@ -1,71 +1,76 @@
--- Laws of listing the sources of one class.
+-- Laws of listing those of a list's elements that pass a test, as the sources of one class.
 -- Assumes nothing.
-use Prim.Native.Nat.{ℕ, zero, suc, ◌+◌, ◌<◌, ◌≤◌}
+use Prim.Native.Nat.{ℕ, suc, ◌+◌, ◌<◌, ◌≤◌}
 use mathlib.Core.Path.{◌≡◌, refl, sym, ◌∙◌, ap}
-use mathlib.Core.List.{List}
-use mathlib.Core.Logic.{◌≢◌}
+use mathlib.Core.Bool.{Bool, true, false}
+use mathlib.Core.List.{List, [], ◌∷◌, ◌++◌, append-nil}
 use native.Mathlib.Omega.{arith}
-use lib.Dec.{eqb}
-use borrow.Author.Tests.{eq-eqb, ne_eqb}
-use lib.ListN.{length, get_or, set}
-use Rattle.record.specs.Node.{node_at, class_of, rank, class}
-use Rattle.room.proofs.Spans.{span_length, span_at}
-use Rattle.sorting.proofs.Keeping.{Keeping, keeping_start, keeping_past, keeping_on, keeping_count, keeping_end}
-use Rattle.merger.specs.Rooms.{Sourced, sources, classed, Classed}
-use Rattle.merger.specs.Sections.{sources_at, bases_at}
+use native.Mathlib.Numerals.{add-one}
+use lib.ListN.{length, take, drop, get_or, set, length-append}
+use lib.Seq.{take_all, take-suc, drop-cons, set_at, append_snoc}
+use Rattle.std.proofs.lemmas.List.{take-append-drop}
+use Rattle.forest.specs.Lists.{keep}
 
--- the class of a kind
-pub class_low : (k : ℕ) → k < 2 → k ≡ rank (class_of k)
-unfolding class_of rank
-class_low zero h = refl
-class_low (suc zero) h = refl
-class_low (suc (suc k)) h = absurd (omega arith)
+keep_append : (t : ℕ → Bool) (a b : List ℕ) → keep t (a ++ b) ≡ keep t a ++ keep t b
+unfolding keep
+keep_append t [] b = refl
+keep_append t (x ∷ a) b = go (t x) refl (keep_append t a b)
+  where
+    go : (p : Bool) → t x ≡ p → keep t (a ++ b) ≡ keep t a ++ keep t b → keep t (x ∷ a ++ b) ≡ keep t (x ∷ a) ++ keep t b
+    go true e ih = rw (e, keep) (ap {B = List ℕ} (λ l. x ∷ l) ih)
+    go false e ih = rw (e, keep) ih
 
-pub class_high : (k : ℕ) → 2 ≤ k → 2 ≡ rank (class_of k)
-unfolding class_of rank
-class_high zero h = absurd (omega arith)
-class_high (suc zero) h = absurd (omega arith)
-class_high (suc (suc k)) h = refl
+-- of the first k elements those that pass are listed
+pub record Classing (t : ℕ → Bool) (l o₀ o : List ℕ) (count k : ℕ) : Type 0 where
+  pub counted : count ≡ length (keep t (take k l))
+  pub put : o ≡ keep t (take k l) ++ drop count o₀
 
--- of the first k sources those of the class c are listed
-pub record Classing (s w₀ w : List ℕ) (n m to c count k : ℕ) : Type 0 where
-  pub keeping : Keeping (λ q. eqb (rank (class (node_at s q))) c) (sources w₀ n m) w₀ w to count k
+pub classing_start : (t : ℕ → Bool) (l o : List ℕ) → Classing t l o o 0 0
+unfolding keep
+classing_start t l o = record { counted = refl; put = refl }
 
-pub classing_start : (s w : List ℕ) (n m to c : ℕ) → Classing s w w n m to c 0 0
-classing_start s w n m to c = record { keeping = keeping_start _ (sources w n m) w to }
+module _ {t : ℕ → Bool} {l o₀ o : List ℕ} {count k : ℕ} (r : Classing t l o₀ o count k) (h : k < length l) where
+  next : keep t (take (k + 1) l) ≡ keep t (take k l) ++ keep t (get_or l k 0 ∷ [])
+  next = rw (add-one, take-suc l k 0 h, keep_append t (take k l) (get_or l k 0 ∷ []))
 
-module _ {s w₀ w : List ℕ} {n m to c count k : ℕ} (a : Sourced s w₀ n m) (b : (bases_at n ≤ to) × (to + m ≤ length w₀)) (r : Classing s w₀ w n m to c count k) where
-  sources_long : length (sources w₀ n m) ≡ m
-  sources_long = let f = a.roomy.room in let g = a.some in omega (arith, span_length w₀ (sources_at n) (sources_at n + m) (omega arith))
+  pub classing_past : t (get_or l k 0) ≡ false → Classing t l o₀ o count (k + 1)
+  unfolding keep
+  classing_past e = record { counted = r.counted ∙ sym (ap length same); put = r.put ∙ ap (λ (a : List ℕ). a ++ drop count o₀) (sym same) }
+    where
+      same : keep t (take (k + 1) l) ≡ keep t (take k l)
+      same = next ∙ rw (e, keep) (append-nil (keep t (take k l)))
 
-  module _ (h : k < m) where
-    there : k < length (sources w₀ n m)
-    there = rw sources_long h
+  module _ (room : length (keep t l) ≤ length o₀) (e : t (get_or l k 0) ≡ true) where
+    listed : keep t (take (k + 1) l) ≡ keep t (take k l) ++ get_or l k 0 ∷ []
+    unfolding keep
+    listed = next ∙ rw (e, keep) refl
 
-    -- the source that is looked at is the one that was there
-    source_same : get_or w (sources_at n + k) 0 ≡ get_or (sources w₀ n m) k 0
-    source_same =
-        let f = r.keeping.rest (sources_at n + k) (λ z. let x = b.0 in let y = a.some in absurd (omega arith)) in
-        f ∙ sym (span_at w₀ (sources_at n) (sources_at n + m) k (omega arith))
+    longer : length (keep t (take (k + 1) l)) ≡ count + 1
+    longer = ap length listed ∙ (length-append (keep t (take k l)) (get_or l k 0 ∷ []) ∙ let z = r.counted in omega arith)
 
-    pub classing_below : get_or w (sources_at n + k) 0 < n
-    classing_below = rw (source_same, span_at w₀ (sources_at n) (sources_at n + m) k (omega arith)) (a.below k h)
+    -- there is room for one more
+    pub classing_room : count < length o₀
+    classing_room =
+        let p = ap length (ap (keep t) (sym (take-append-drop (k + 1) l)) ∙ keep_append t (take (k + 1) l) (drop (k + 1) l)) in
+        let q = length-append (keep t (take (k + 1) l)) (keep t (drop (k + 1) l)) in
+        let z = longer in
+        omega arith
 
-    module _ (kind own : ℕ) (known : kind ≡ (node_at s (get_or w (sources_at n + k) 0)).kind) (ranked : own ≡ rank (class_of kind)) where
-      own_is : own ≡ rank (class (node_at s (get_or (sources w₀ n m) k 0)))
-      unfolding class
-      own_is = ranked ∙ (ap (λ (x : ℕ). rank (class_of x)) known ∙ ap (λ (x : ℕ). rank (class_of (node_at s x).kind)) source_same)
+    pub classing_on : Classing t l o₀ (set o count (get_or l k 0)) (count + 1) (k + 1)
+    classing_on =
+        let y = classing_room in
+        record {
+          counted = sym longer;
+          put =
+              rw (
+                r.put,
+                drop-cons o₀ count 0 y,
+                set_at (keep t (take k l)) (get_or o₀ count 0) (drop (suc count) o₀) (get_or l k 0) count (sym r.counted),
+                listed,
+                add-one,
+                append_snoc (keep t (take k l)) (get_or l k 0) (drop (suc count) o₀),
+              );
+        }
 
-      pub classing_past : own ≢ c → Classing s w₀ w n m to c count (k + 1)
-      classing_past d = record { keeping = keeping_past r.keeping there (ne_eqb _ _ (λ e. d (own_is ∙ e))) }
-
-      pub classing_on : own ≡ c → Classing s w₀ (set w (to + count) (get_or w (sources_at n + k) 0)) n m to c (count + 1) (k + 1)
-      classing_on e = let x = b.1 in let z = sources_long in record { keeping = keeping_on r.keeping there (omega arith) (eq-eqb _ _ (sym own_is ∙ e)) (get_or w (sources_at n + k) 0) source_same }
-
-  pub classing_end : m ≤ k → Classed s w₀ w n m to c count
-  unfolding classed
-  classing_end h =
-      let x = b.1 in
-      let z = sources_long in
-      let k = r.keeping in
-      record { count = keeping_count k (omega arith) (omega arith); few = omega (arith, k.some, k.within); puts = keeping_end k (omega arith) (omega arith) }
+pub classing_end : {t : ℕ → Bool} {l o₀ o : List ℕ} {r k : ℕ} → Classing t l o₀ o r k → length l ≤ k → record { count : r ≡ length (keep t l); listed : o ≡ keep t l ++ drop r o₀ }
+classing_end {l = l} {k = k} a h = let e = take_all k l h in record { count = rw e at a.counted; listed = rw e at a.put }

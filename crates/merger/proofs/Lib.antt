@@ -21,12 +21,12 @@ pub mod Likes
 pub mod Holders
 pub mod Classing
 pub mod Lining
-pub mod Placing
 pub mod Moving
 pub mod Firsts
 pub mod Mentioning
 pub mod Writing
 pub mod Sourcing
+pub mod Cutting
 pub mod Settles
 pub mod Handing
 pub mod Sizing

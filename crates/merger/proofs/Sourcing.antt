@@ -10,6 +10,8 @@ use lib.ListN.{length, get_or, length-map}
 use lib.Seq.{ext_get_or}
 use Rattle.record.specs.Lists.{run}
 use Rattle.record.specs.Node.{node_at, class_of, rank, class, is_external, is_block, is_internal, renumber}
+use Rattle.record.specs.declared.Class.{Class}
+use Rattle.record.specs.declared.Class.TheVariants.{External, Block, Internal}
 use Rattle.record.specs.declared.Node.{Node}
 use Rattle.record.proofs.Lengths.{length_run}
 use Rattle.record.proofs.Nodes.{child_from}
@@ -23,16 +25,15 @@ use Rattle.claims.specs.First.{order_first}
 use Rattle.claims.specs.Sorts.{run_in}
 use Rattle.claims.specs.Sound.{Sound}
 use Rattle.claims.specs.Walks.{id_in_in}
-use Rattle.room.specs.Sections.{span}
-use Rattle.room.proofs.Spans.{span_length, span_at}
 use Rattle.sorting.specs.Digests.{less}
+use Rattle.sorting.specs.Promises.{Listed}
 use Rattle.sorting.specs.Sorted.{All}
 use Rattle.sorting.proofs.Agree.{sort_agree}
 use Rattle.sorting.proofs.SortLaws.{at_all, all_keep}
 use Rattle.sorting.proofs.Uses.{get_d_map}
 use Rattle.dense_order.proofs.Filling.{ids_at}
 use Rattle.dense_order.proofs.Gathering.{keep_same}
-use Rattle.merger.specs.Rooms.{Sourced, sources, classed, sorted}
+use Rattle.merger.specs.Rooms.{classed, sorted}
 use Rattle.merger.specs.Sections.{sources_at}
 use Rattle.merger.specs.Walking.{Source, Ended}
 use Rattle.merger.proofs.Fine.{fine_few}
@@ -63,13 +64,12 @@ module _ (f : ℕ → ℕ) where
   sort_map goes [] = refl
   sort_map goes (x ∷ l) = ap (insert (λ a b. not (goes b a)) (f x)) (sort_map goes l) ∙ insert_map (λ a b. not (goes b a)) x (sort (λ a b. goes (f a) (f b)) l)
 
--- a section, number by number
-span_run : (w : List ℕ) (a m : ℕ) → a + m ≤ length w → span w a (a + m) ≡ map (λ k. get_or w (a + k) 0) (run 0 m)
-span_run w a m h =
-    let p = span_length w a (a + m) h in
-    let q : length (map (λ k. get_or w (a + k) 0) (run 0 m)) ≡ length (run 0 m) = length-map (run 0 m) _ in
+-- a list, number by number
+map_run : (f : ℕ → ℕ) (l : List ℕ) (m : ℕ) → length l ≡ m → ((k : ℕ) → k < m → get_or l k 0 ≡ f k) → l ≡ map f (run 0 m)
+map_run f l m h e =
+    let q : length (map f (run 0 m)) ≡ length (run 0 m) = length-map (run 0 m) f in
     let r = length_run 0 m in
-    ext_get_or 0 (span w a (a + m)) (map (λ k. get_or w (a + k) 0) (run 0 m)) (omega arith) (λ i b. span_at w a (a + m) i (omega arith) ∙ sym (get_d_map (λ k. get_or w (a + k) 0) (run 0 m) i 0 0 (omega arith) ∙ ap (λ (k : ℕ). get_or w (a + k) 0) (ids_at m i (omega arith))))
+    ext_get_or 0 l (map f (run 0 m)) (omega arith) (λ i b. e i (omega arith) ∙ sym (get_d_map f (run 0 m) i 0 0 (omega arith) ∙ ap f (ids_at m i (omega arith))))
 
 -- MERGED NODES ------------------------------------------------------------------------------------
 
@@ -94,9 +94,6 @@ module _ {s w : List ℕ} {n m : ℕ} {g : List Node} {t : State} (a : Ended s w
   pub source_below : (k : ℕ) → k < m → source k < n
   source_below k h = a.fine.within (source k) (id_in_in t.done (source k) k (source_of k h).own)
 
-  pub sourced : Sourced s w n m
-  sourced = record { roomy = record { counted = a.mapped.counted; few = a.mapped.few; room = a.mapped.room }; some = few; below = source_below }
-
   -- a merged node has the kind and the digest of its source's record
   kind_is : (k : ℕ) → k < m → (node_at s (source k)).kind ≡ (at t.merged k).kind
   unfolding renumber
@@ -107,36 +104,39 @@ module _ {s w : List ℕ} {n m : ℕ} {g : List Node} {t : State} (a : Ended s w
   digest_is k h = rw ((source_of k h).node, a.mapped.nodes (source k) (source_below k h)) refl
 
   -- so its class is that of the record
-  class_is : (c : ℕ) → classed s c (sources w n m) ≡ map source (keep (λ k. eqb (rank (class (at t.merged k))) c) (run 0 m))
-  unfolding classed class
-  class_is c =
-      let f = a.mapped.room in
-      let h = few in
-      rw (span_run w (sources_at n) m (omega arith))
-      (keep_map source (λ q. eqb (rank (class (node_at s q))) c) (run 0 m)
-      ∙ ap (map source) (keep_same _ _ (run 0 m) (λ k i. let (u, v) = run_in 0 m k i in ap (λ (x : ℕ). eqb (rank (class_of x)) c) (kind_is k (omega arith)))))
+  module _ (l : List ℕ) (long : length l ≡ m) (same : (k : ℕ) → k < m → get_or l k 0 ≡ source k) where
+    pub sources_listed : Listed s l
+    unfolding Listed
+    sources_listed = at_all l (λ k h. let c = a.mapped.counted in let b = source_below k (omega arith) in let e = same k (omega arith) in omega arith)
 
-  below_m : All (λ k. k < m) (run 0 m)
-  below_m = let l = length_run 0 m in at_all (run 0 m) (λ i h. let e = ids_at m i (omega arith) in omega arith)
+    class_is : (c : Class) → classed s c l ≡ map source (keep (λ k. eqb (rank (class (at t.merged k))) (rank c)) (run 0 m))
+    unfolding classed class
+    class_is c =
+        rw (map_run source l m long same)
+        (keep_map source (λ q. eqb (rank (class (node_at s q))) (rank c)) (run 0 m)
+        ∙ ap (map source) (keep_same _ _ (run 0 m) (λ k i. let (u, v) = run_in 0 m k i in ap (λ (x : ℕ). eqb (rank (class_of x)) (rank c)) (kind_is k (omega arith)))))
 
-  externals_are : sort (less s) (classed s 0 (sources w n m)) ≡ map source (externals t.merged)
-  unfolding externals ids is_external rank lower less
-  externals_are =
-      rw (class_is 0, ← a.counted)
-      (sort_map source (less s) (keep (λ k. eqb (rank (class (at t.merged k))) 0) (run 0 m))
-      ∙ ap (map source) (sort_agree (λ x y. less s (source x) (source y)) (lower t.merged) (λ x y h k. rw (digest_is x h, digest_is y k) refl) (all_keep _ below_m)))
+    below_m : All (λ k. k < m) (run 0 m)
+    below_m = let z = length_run 0 m in at_all (run 0 m) (λ i h. let e = ids_at m i (omega arith) in omega arith)
 
-  -- the sources as they are sorted are those of the order
-  pub sorted_is : sorted s (sources w n m) ≡ map source (order t.merged)
-  unfolding sorted blocks ids is_block is_internal rank
-  sorted_is =
-      rw (
-        order_first t.merged (λ p c k. built_kids a.fine.sound.merged_built p c k),
-        externals_are,
-        class_is 1,
-        class_is 2,
-        map-append source (externals t.merged) (blocks t.merged ++ keep (λ p. is_internal (at t.merged p)) (ids t.merged)),
-        map-append source (blocks t.merged) (keep (λ p. is_internal (at t.merged p)) (ids t.merged)),
-        ← a.counted,
-      )
-      refl
+    externals_are : sort (less s) (classed s External l) ≡ map source (externals t.merged)
+    unfolding externals ids is_external lower less
+    externals_are =
+        rw (class_is External, ← a.counted)
+        (sort_map source (less s) (keep (λ k. eqb (rank (class (at t.merged k))) (rank External)) (run 0 m))
+        ∙ ap (map source) (sort_agree (λ x y. less s (source x) (source y)) (lower t.merged) (λ x y h k. rw (digest_is x h, digest_is y k) refl) (all_keep _ below_m)))
+
+    -- the sources as they are sorted are those of the order
+    pub sorted_is : sorted s l ≡ map source (order t.merged)
+    unfolding sorted blocks ids is_block is_internal
+    sorted_is =
+        rw (
+          order_first t.merged (λ p c k. built_kids a.fine.sound.merged_built p c k),
+          externals_are,
+          class_is Block,
+          class_is Internal,
+          map-append source (externals t.merged) (blocks t.merged ++ keep (λ p. is_internal (at t.merged p)) (ids t.merged)),
+          map-append source (blocks t.merged) (keep (λ p. is_internal (at t.merged p)) (ids t.merged)),
+          ← a.counted,
+        )
+        refl

@@ -24,12 +24,8 @@ pub const MOST_DEPTH: u32 = 4096;
 // The mark for none in an id list.
 pub const NO_ID: u32 = 4294967295;
 
-// The kinds of externals and blocks, and the lowest of internals.
+// The kind of externals.
 const EXTERNAL: u32 = 0;
-
-const BLOCK: u32 = 1;
-
-const INTERNAL: u32 = 2;
 
 // The sections of the work room, of n words each: the state of each position from 0 on (0 unseen, 1 open, else 2 more than its new id), then
 // these: the position that a merged id comes from, the first position of a position's forest, the non-externals by digest, the sort's spare
@@ -43,10 +39,6 @@ const HOLDERS: usize = 3;
 const SPARE: usize = 4;
 
 const ORDER: usize = 5;
-
-const PLACES: usize = 6;
-
-const LISTED: usize = 7;
 
 const STARTS: usize = 8;
 

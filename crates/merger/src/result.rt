@@ -1,105 +1,96 @@
 // The result in the room: merged nodes in their canonical order, every id carried through it, and the roots.
-ghost use Rattle.std.specs.Prelude.{◌≡◌, ℕ, ◌+◌, ◌*◌, ◌≤◌, length};
-ghost use mathlib.Core.List.{List, Memᴰ};
-ghost use Rattle.record.specs.Node.{class_of, rank};
+ghost use Rattle.std.specs.Prelude.{◌≡◌, ℕ, ◌<◌, ◌≤◌, ◌++◌, length, drop, get_or};
+ghost use mathlib.Core.List.{List, map, Memᴰ};
 ghost use Rattle.record.specs.declared.Node.{Node};
 ghost use Rattle.forest.specs.Merge.{root_sum};
 ghost use Rattle.forest.specs.Walk.{State};
 ghost use Rattle.claims.specs.Sound.{Finished};
-ghost use Rattle.merger.specs.Rooms.{Sourced, Classed, Arranged, Lined, Placed, Movable, Moved, Rooted, Mentions};
-ghost use Rattle.merger.specs.Sections.{bases_at};
+ghost use Rattle.sorting.specs.Promises.{Listed};
+ghost use Rattle.merger.specs.Rooms.{Sourced, classed, sorted, id_at, Lined, Movable, moved, Rooted, Mentions};
 ghost use Rattle.merger.specs.Settling.{Over, Settled};
 ghost use Rattle.merger.specs.Table.{starts};
 ghost use Rattle.merger.specs.Walking.{Ended};
 
 use crate::table::{Cursor, Table};
-use crate::{BLOCK, EXTERNAL, INTERNAL, LISTED, ORDER, PLACES, SOURCES, SPARE, STARTS};
+use crate::{SOURCES, SPARE};
+use record::Class;
 
-// The class of a kind, by its lowest kind.
-fn class_of(kind: u32) -> u32
-    ensures { result ≡ rank (class_of kind) }
-{
-    if kind < INTERNAL { kind } else { INTERNAL }
-}
-
-// Lists the sources of the merged nodes of one class from place `to` on, in the order of their ids; says how many they are.
-fn list_class(nodes: &[u8], work: &mut [u32], n: usize, m: usize, to: usize, class: u32) -> usize
-    requires sourced { Sourced nodes.now work.old n m }
-    requires n_bound { (bases_at n ≤ to) × (to + m ≤ length work.old) }
-    ensures { Classed nodes.now work.old work.new n m to class result }
+// Lists the sources of one class; says how many they are. (dense_order's goes over ids: what both go over would be one more parameter.)
+fn list_class(nodes: &[u8], sources: &[u32], order: &mut [u32], class: Class) -> usize
+    requires listed { Listed nodes.now sources.now }
+    requires room { length (classed nodes.now class sources.now) ≤ length order.old }
+    ensures count { result ≡ length (classed nodes.now class sources.now) }
+    ensures listed { order.new ≡ classed nodes.now class sources.now ++ drop result order.old }
 {
     let mut count = 0;
-    for k in 0..m {
-        let source = work[SOURCES * n + k];
-        let kind = record::kind_at(nodes, source as usize);
-        if class_of(kind) != class {
+    for source in sources {
+        if record::class_of(record::kind_at(nodes, *source as usize)) != class {
             continue;
         }
-        work[to + count] = source;
+        order[count] = *source;
         count += 1;
     }
     count
 }
 
-// Step 5: the sources of the m merged nodes in their canonical order: externals by digest, then blocks and internals by id.
-fn arrange(nodes: &[u8], work: &mut [u32], n: usize, m: usize)
-    requires { Sourced nodes.now work.old n m }
-    ensures { Arranged nodes.now work.old work.new n m }
+// Step 5: the sources of merged nodes in their canonical order: externals by digest, then blocks and internals by id.
+fn arrange(nodes: &[u8], sources: &[u32], order: &mut [u32], spare: &mut [u32])
+    requires { Sourced nodes.now sources.now order.old spare.old }
+    ensures { order.new ≡ sorted nodes.now sources.now }
 {
-    let externals = list_class(nodes, work, n, m, ORDER * n, EXTERNAL);
-    let (front, order) = work.split_at_mut(ORDER * n);
-    let spare = SPARE * n;
-    sorting::sort_by_digest(
-        nodes,
-        &mut order[..externals],
-        &mut front[spare..spare + externals],
-    );
-    let blocks = list_class(nodes, work, n, m, ORDER * n + externals, BLOCK);
-    list_class(nodes, work, n, m, ORDER * n + externals + blocks, INTERNAL);
+    let externals = list_class(nodes, sources, order, Class::External);
+    let (by_digest, others) = order.split_at_mut(externals);
+    sorting::sort_by_digest(nodes, by_digest, &mut spare[..externals]);
+    let blocks = list_class(nodes, sources, others, Class::Block);
+    let (_, internals) = others.split_at_mut(blocks);
+    list_class(nodes, sources, internals, Class::Internal);
 }
 
 // Writes the place in the order of each merged id.
-fn mark_places(work: &mut [u32], n: usize, m: usize)
-    requires { Lined work.old n m }
-    ensures { Placed work.old work.new n m }
+fn mark_places(states: &[u32], order: &[u32], places: &mut [u32])
+    requires { Lined states.now order.now (length places.old) }
+    ensures { (j : ℕ) → j < length order.now → get_or places.new (id_at states.now order.now j) 0 ≡ j }
 {
-    for j in 0..m {
-        let source = work[ORDER * n + j] as usize;
-        let id = work[source] as usize - 2;
-        work[PLACES * n + id] = j as u32;
+    for (j, source) in order.iter().enumerate() {
+        let id = states[*source as usize] as usize - 2;
+        places[id] = j as u32;
     }
 }
 
 // Carries every id through the order.
-fn carry(work: &mut [u32], n: usize)
-    requires { Movable work.old n }
-    ensures { Moved work.old work.new n }
+fn carry(states: &mut [u32], places: &[u32])
+    requires { Movable states.old places.now }
+    ensures { states.new ≡ map (moved places.now) states.old }
 {
-    for p in 0..n {
-        if work[p] < 2 {
+    for state in states.iter_mut() {
+        if *state < 2 {
             continue;
         }
-        let id = work[p] as usize - 2;
-        work[p] = work[PLACES * n + id] + 2;
+        *state = places[*state as usize - 2] + 2;
     }
 }
 
 // Step 4: lists the new ids of the roots, first mention kept, repeats dropped; says how many they are.
-fn list_roots(table: &Table, roots: &[u32], work: &mut [u32], n: usize) -> usize
-    requires rooted { Rooted table.now roots.now work.old n }
-    ensures { Mentions table.now roots.now work.old work.new n result }
+fn list_roots(
+    table: &Table,
+    roots: &[u32],
+    states: &[u32],
+    listed: &mut [u32],
+    starts: &mut [u32],
+) -> usize
+    requires { Rooted table.now roots.now states.now listed.old starts.old }
+    ensures { Mentions table.now roots.now states.now listed.new starts.new result }
 {
     let mut at = Cursor::start();
     let mut count = 0;
     for (k, root) in roots.iter().enumerate() {
         at = table.at_root(at, k);
-        let id = work[at.base + *root as usize] - 2;
-        let listed = LISTED * n + id as usize;
-        if work[listed] == 1 {
+        let id = states[at.base + *root as usize] - 2;
+        if listed[id as usize] == 1 {
             continue;
         }
-        work[listed] = 1;
-        work[STARTS * n + count] = id;
+        listed[id as usize] = 1;
+        starts[count] = id;
         count += 1;
     }
     count
@@ -118,8 +109,15 @@ pub(crate) fn settle(
     requires over { Over nodes.now work.old n m (starts table.now roots.now) }
     ensures { (g : List Node) (t : State) → Ended nodes.now work.old n m g t → ((x : ℕ) → Memᴰ x (starts table.now roots.now) → Finished t x) → Settled nodes.now work.new n m result g (starts table.now roots.now) t }
 {
-    arrange(nodes, work, n, m);
-    mark_places(work, n, m);
-    carry(work, n);
-    list_roots(table, roots, work, n)
+    let (states, rest) = work.split_at_mut(SOURCES * n);
+    let (walk, rest) = rest.split_at_mut((SPARE - SOURCES) * n);
+    let (spare, rest) = rest.split_at_mut(n);
+    let (order, rest) = rest.split_at_mut(n);
+    let (places, rest) = rest.split_at_mut(n);
+    let (listed, starts) = rest.split_at_mut(n);
+    let order = &mut order[..m];
+    arrange(nodes, &walk[..m], order, spare);
+    mark_places(states, order, places);
+    carry(states, places);
+    list_roots(table, roots, states, listed, starts)
 }

@@ -1,40 +1,34 @@
-use Rattle.merger.proofs.Lining.{first_room, sort_room, sorted_room, blocks_ready, internals_ready, arranged}
+use native.Mathlib.Omega.{arith}
+use Rattle.merger.proofs.Lining.{classes_long, sort_room, blocks_room, internals_room, arranged}
 use Rattle.merger.proofs.result.arrange.Goals as goal
 
-pub list_class-externals-requires : goal.list_class-externals-requires
-list_class-externals-requires c = record { sourced = c.requires; n_bound = first_room c.requires }
+pub list_class-externals-requires-clause-room : goal.list_class-externals-requires-clause-room
+list_class-externals-requires-clause-room c = omega (arith, c.requires.as_long, classes_long c.args.nodes.now c.args.sources.now)
 
 pub sort_by_digest-requires : goal.sort_by_digest-requires
 sort_by_digest-requires c =
-    let one = c.list_class-externals in
-    let e = c.split_at_mut-front.ensures in
-    sort_room c.requires one.auto.work one.ensures _ _ e.value e.front_len
+    let one = c.list_class-externals.ensures in
+    let cut = c.split_at_mut-by_digest.ensures in
+    sort_room c.requires one.count one.listed cut.front cut.back
 
-pub list_class-blocks-requires : goal.list_class-blocks-requires
-list_class-blocks-requires c =
-    let one = c.list_class-externals in
-    let e = c.split_at_mut-front.ensures in
-    let t = c.sort_by_digest in
-    let two = sorted_room c.requires one.auto.work one.ensures _ _ e.value e.front_len t.ensures.sorted t.ensures.spared_zero t.auto.list in
-    let ready = blocks_ready c.requires one.auto.work one.ensures two in
-    record { sourced = ready.0; n_bound = ready.1 }
+pub list_class-blocks-requires-clause-room : goal.list_class-blocks-requires-clause-room
+list_class-blocks-requires-clause-room c =
+    let one = c.list_class-externals.ensures in
+    let cut = c.split_at_mut-by_digest.ensures in
+    blocks_room c.requires one.count one.listed cut.front cut.back
 
-pub list_class-requires : goal.list_class-requires
-list_class-requires c =
-    let one = c.list_class-externals in
-    let e = c.split_at_mut-front.ensures in
-    let t = c.sort_by_digest in
-    let two = sorted_room c.requires one.auto.work one.ensures _ _ e.value e.front_len t.ensures.sorted t.ensures.spared_zero t.auto.list in
-    let three = c.list_class-blocks in
-    let ready = internals_ready c.requires one.auto.work one.ensures two three.auto.work three.ensures in
-    record { sourced = ready.0; n_bound = ready.1 }
+pub list_class-requires-clause-room : goal.list_class-requires-clause-room
+list_class-requires-clause-room c =
+    let one = c.list_class-externals.ensures in
+    let cut = c.split_at_mut-by_digest.ensures in
+    let two = c.list_class-blocks.ensures in
+    let past = c.split_at_mut-internals.ensures in
+    internals_room c.requires one.count one.listed cut.front cut.back two.count two.listed past.front past.back
 
 pub returns : goal.returns
 returns c =
-    let one = c.list_class-externals in
-    let e = c.split_at_mut-front.ensures in
-    let t = c.sort_by_digest in
-    let two = sorted_room c.requires one.auto.work one.ensures _ _ e.value e.front_len t.ensures.sorted t.ensures.spared_zero t.auto.list in
-    let three = c.list_class-blocks in
-    let four = c.list_class in
-    arranged c.requires one.auto.work one.ensures two three.auto.work three.ensures four.auto.work four.ensures
+    let one = c.list_class-externals.ensures in
+    let cut = c.split_at_mut-by_digest.ensures in
+    let two = c.list_class-blocks.ensures in
+    let past = c.split_at_mut-internals.ensures in
+    arranged c.requires one.count one.listed cut.front cut.back two.count two.listed past.front past.back c.sort_by_digest.ensures.sorted c.list_class.ensures.count c.list_class.ensures.listed

@@ -1,5 +1,6 @@
-use Rattle.merger.proofs.Moving.{Moving}
+use Rattle.dense_order.proofs.Filling.{Filled}
+use Rattle.merger.specs.Rooms.{moved}
 use Rattle.merger.proofs.result.carry.Given as goal
 
-abbrev pub invariant-loop-p : goal.invariant-loop-p
-invariant-loop-p l = Moving l.initial.work l.work l.n l.p
+abbrev pub invariant-loop-state : goal.invariant-loop-state
+invariant-loop-state l = Filled (moved l.places) l.initial.states l.initial.states l.states l.state-index

@@ -1,51 +1,40 @@
-use Prim.Native.Nat.{◌+◌, ◌<◌}
+use mathlib.Core.Path.{◌≡◌, sym, ◌∙◌}
+use mathlib.Core.Bool.{true}
 use native.Mathlib.Omega.{arith}
+use lib.Dec.{eqb}
 use lib.ListN.{get_or}
-use Rattle.merger.specs.Sections.{sources_at}
-use Rattle.merger.proofs.Classing.{classing_start, classing_below, classing_past, classing_on, classing_end}
+use Rattle.record.specs.Node.{node_at, rank, class}
+use Rattle.record.proofs.Classes.{class_read, class_other, class_same}
+use Rattle.sorting.proofs.Elements.{listed_node}
+use Rattle.merger.specs.Rooms.{classed}
+use Rattle.merger.proofs.Classing.{classing_start, classing_past, classing_room, classing_on, classing_end}
 use Rattle.merger.proofs.result.list_class.Goals as goal
-use Rattle.merger.proofs.result.list_class.Goals.{After-slice_known-in-loop-k-1}
+use Rattle.merger.proofs.result.list_class.Goals.{Else-ne}
 
-below : (c : After-slice_known-in-loop-k-1) → get_or c.loop-k.work (sources_at c.args.n + c.loop-k.k) 0 < c.args.n
-below c = classing_below c.requires.sourced c.requires.n_bound c.loop-k.invariant c.loop-k-test.true
+own : (c : Else-ne) → eqb (rank (class (node_at c.args.nodes.now (get_or c.args.sources.now c.loop-source.source-index 0)))) (rank c.args.class) ≡ true
+own c = rw (← class_read (node_at c.args.nodes.now (get_or c.args.sources.now c.loop-source.source-index 0)) c.kind_at.ensures c.class_of.ensures) (class_same _ _ (sym c.ne.ensures ∙ c.if-ne.false))
 
-pub loop-k-init : goal.loop-k-init
-loop-k-init c = classing_start _ _ _ _ _ _
+pub loop-source-init : goal.loop-source-init
+loop-source-init c = classing_start _ _ _
 
-pub overflow_cast-source : goal.overflow_cast-source
-overflow_cast-source c = omega (arith, below (goal.at.overflow_cast-source c).After-slice_known-in-loop-k-1)
+pub kind_at-requires : goal.kind_at-requires
+kind_at-requires c = omega (arith, listed_node _ _ _ c.requires.listed c.loop-source-test.true)
 
-pub kind_at-kind-requires : goal.kind_at-kind-requires
-kind_at-kind-requires c = omega (arith, below (goal.at.kind_at-kind-requires c).After-slice_known-in-loop-k-1)
-
-pub loop-k-preserved-then-class_of-class : goal.loop-k-preserved-then-class_of-class
-loop-k-preserved-then-class_of-class c =
+pub loop-source-preserved-then-ne : goal.loop-source-preserved-then-ne
+loop-source-preserved-then-ne c =
     classing_past
-    c.requires.sourced
-    c.requires.n_bound
-    c.loop-k.invariant
-    c.loop-k-test.true
-    _
-    _
-    c.kind_at-kind.ensures
-    c.class_of.ensures
-    c.if-class_of-class.true
+    c.loop-source.invariant
+    c.loop-source-test.true
+    (rw (← class_read (node_at c.args.nodes.now (get_or c.args.sources.now c.loop-source.source-index 0)) c.kind_at.ensures c.class_of.ensures) (class_other _ _ (sym c.ne.ensures ∙ c.if-ne.true)))
 
-pub loop-k-preserved : goal.loop-k-preserved
-loop-k-preserved c =
-    classing_on
-    c.requires.sourced
-    c.requires.n_bound
-    c.loop-k.invariant
-    c.loop-k-test.true
-    _
-    _
-    c.kind_at-kind.ensures
-    c.class_of.ensures
-    c.if-class_of-class.false
+pub bounds-order-count : goal.bounds-order-count
+unfolding classed
+bounds-order-count c = omega (arith, classing_room c.loop-source.invariant c.loop-source-test.true c.requires.room (own c))
 
-pub shape_of-work : goal.shape_of-work
-shape_of-work c = c.loop-k.invariant.keeping.long
+pub loop-source-preserved : goal.loop-source-preserved
+unfolding classed
+loop-source-preserved c = classing_on c.loop-source.invariant c.loop-source-test.true c.requires.room (own c)
 
 pub returns : goal.returns
-returns c = classing_end c.requires.sourced c.requires.n_bound c.loop-k.invariant c.loop-k-test.false
+unfolding classed
+returns c = classing_end c.loop-source.invariant c.loop-source-test.false
