@@ -1,4 +1,4 @@
--- What each step on the way to the result asks of the work room, and what it leaves there.
+-- What each step on the way to the result asks of the sections of the work room, and what it leaves there.
 -- Assumes nothing: these are definitions.
 use Rattle.std.specs.Prelude.{ℕ, ◌+◌, ◌-◌, ◌<◌, ◌≤◌, ◌≡◌, true, false, eqb, ltb, length, take, get_or}
 use mathlib.Core.List.{List, [], ◌++◌, map, Memᴰ}
@@ -42,20 +42,20 @@ pub record Ends (w : List ℕ) (n p : ℕ) : Type 0 where
   pub ended : 1 < get_or w p 0
   pub id : id_on w p < n
 
--- finished positions with ids of their own stand in the order, and n places can be written
+-- finished positions with ids of their own, all below n, stand in the order
 pub record Lined (w o : List ℕ) (n : ℕ) : Type 0 where
   pub few : n ≤ most
   pub some : length o ≤ n
   pub ends : (j : ℕ) → j < length o → Ends w n (get_or o j 0)
   pub apart : (i j : ℕ) → i < length o → j < length o → id_at w o i ≡ id_at w o j → i ≡ j
 
--- each finished position has an id with a place
+-- each finished position has an id with a place, which l says
 pub record Movable (w l : List ℕ) : Type 0 where
   pub few : length l ≤ most
   pub ids : (p : ℕ) → p < length w → 1 < get_or w p 0 → id_on w p < length l
   pub places : (p : ℕ) → p < length w → 1 < get_or w p 0 → get_or l (id_on w p) 0 < length l
 
--- the state that tells this place in the place of the id; that of a position that is not finished stays
+-- the state that tells this place, of one that tells the id; that of no finished position stays
 unfoldable pub moved : List ℕ → ℕ → ℕ
 moved l v = elim (ltb v 2) [ true ↦ v | false ↦ get_or l (v - 2) 0 + 2 ]
 

@@ -15,7 +15,7 @@ use crate::table::{Cursor, Table};
 use crate::{SOURCES, SPARE};
 use record::Class;
 
-// Lists the sources of one class; says how many they are. (dense_order's goes over ids: what both go over would be one more parameter.)
+// Lists the sources of one class; says how many they are. (The twin in dense_order goes over all ids, of which it has no list to hand over.)
 fn list_class(nodes: &[u8], sources: &[u32], order: &mut [u32], class: Class) -> usize
     requires listed { Listed nodes.now sources.now }
     requires room { length (classed nodes.now class sources.now) ≤ length order.old }
@@ -109,6 +109,7 @@ pub(crate) fn settle(
     requires over { Over nodes.now work.old n m (starts table.now roots.now) }
     ensures { (g : List Node) (t : State) → Ended nodes.now work.old n m g t → ((x : ℕ) → Memᴰ x (starts table.now roots.now) → Finished t x) → Settled nodes.now work.new n m result g (starts table.now roots.now) t }
 {
+    // Between the states and the spare section lies what the walk kept: sources first, then what no step here reads.
     let (states, rest) = work.split_at_mut(SOURCES * n);
     let (walk, rest) = rest.split_at_mut((SPARE - SOURCES) * n);
     let (spare, rest) = rest.split_at_mut(n);

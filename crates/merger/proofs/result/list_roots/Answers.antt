@@ -13,9 +13,6 @@ ends c = mentioning_ends c.requires c.loop-k.invariant c.loop-k-test.true _ c.at
 pub loop-k-init : goal.loop-k-init
 loop-k-init c = mentioning_start c.requires _ c.start-at.ensures
 
-pub at_root-at-requires : goal.at_root-at-requires
-at_root-at-requires c = record { to_root = c.loop-k.invariant.toward; k_bound = omega (arith, c.requires.long) }
-
 pub overflow_add-id : goal.overflow_add-id
 overflow_add-id c = let e = ends (goal.at.overflow_add-id c).After-at_root-at in omega arith
 
