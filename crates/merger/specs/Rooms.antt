@@ -10,7 +10,7 @@ use Rattle.room.specs.Sections.{span, Out, Puts}
 use Rattle.sorting.specs.Digests.{less}
 use Rattle.merger.specs.Sections.{sources_at, spare_at, order_at, places_at, listed_at, starts_at}
 use Rattle.merger.specs.Table.{starts}
-use Rattle.merger.specs.Walking.{Roomy, Readable}
+use Rattle.merger.specs.Walking.{Roomy}
 
 -- the sources of the m merged nodes, by id
 abbrev pub sources : List ℕ → ℕ → ℕ → List ℕ
@@ -99,12 +99,6 @@ pub record Mentions (t rs w w' : List ℕ) (n r : ℕ) : Type 0 where
   pub few : r ≤ n
   pub put : span w' (starts_at n) (starts_at n + r) ≡ mentioned w (starts t rs)
   pub rest : (y : ℕ) → y < listed_at n → get_or w' y 0 ≡ get_or w y 0
-
--- the m sources in the order can be read
-pub record Writable (s w : List ℕ) (n m : ℕ) : Type 0 where
-  pub roomy : Roomy s w n
-  pub some : m ≤ n
-  pub readable : (j : ℕ) → j < m → Readable s w n (get_or w (order_at n + j) 0)
 
 -- what the id list says for a position's word
 unfoldable pub shown_as : ℕ → ℕ
