@@ -9,7 +9,7 @@ use native.Mathlib.Decide.{dec_lt}
 use denote.Enum.Bare.{sameb}
 use Rattle.std.proofs.lemmas.List.{get_or_append_left, get_or-append_right}
 use lib.Dec.{eqb}
-use lib.ListN.{length, take, drop, get_or, get_or-replicate, replicate, length-take, length-replicate}
+use lib.ListN.{length, take, drop, get_or, set, get_or-replicate, replicate, length-take, length-replicate}
 use lib.Seq.{get_or-drop, take_at}
 use Rattle.record.specs.Lists.{run}
 use Rattle.record.specs.Node.{node_at, class_of, rank, is_external}
@@ -24,7 +24,7 @@ use Rattle.room.specs.Sections.{span}
 use Rattle.sorting.specs.Promises.{Listed, Spared}
 use Rattle.sorting.specs.Digests.{less}
 use Rattle.sorting.proofs.Callers.{shelf_sorted, last_sorted}
-use Rattle.sorting.proofs.Keeping.{Keeping, keeping_count, keeping_end}
+use Rattle.sorting.proofs.Keeping.{Keeping, keeping_count, keeping_end, numbers_on}
 use Rattle.sorting.proofs.Uses.{kept_listed, replacement_is}
 use Rattle.merger.specs.Walking.{Ample, others, Lists, Shelved}
 
@@ -32,6 +32,10 @@ use Rattle.merger.specs.Walking.{Ample, others, Lists, Shelved}
 pub said_external : (x : Node) {k : ℕ} {c : Class} {r : Bool} → k ≡ x.kind → c ≡ class_of k → r ≡ sameb the_type c External → r ≡ is_external x
 unfolding is_external
 said_external x {k} {c} e f q = q ∙ (class_eq c External ∙ ap (λ (z : Class). eqb (rank z) (rank External)) (class_read x e f))
+
+-- the next position is listed
+pub listed_on : {t : ℕ → Bool} {l₀ l : List ℕ} {n count p : ℕ} → Keeping t (run 0 n) l₀ l 0 count p → p < n → n ≤ length l₀ → t p ≡ true → Keeping t (run 0 n) l₀ (set l count p) 0 (count + 1) (p + 1)
+listed_on {count = count} m h fits e = let z : 0 + count ≡ count = omega arith in rw z at (numbers_on m h (omega arith) e)
 
 -- all are looked at
 pub listed_all : {s l₀ l : List ℕ} {count p : ℕ} → Ample s l₀ → Keeping (λ q. not (is_external (node_at s q))) (run 0 (length l₀)) l₀ l 0 count p → length l₀ ≤ p → Lists s l₀ l count
@@ -76,5 +80,5 @@ module _ {s l₀ l : List ℕ} {r : ℕ} (a : Ample s l₀) (long : length l ≡
         }
       where
         zero : ((j : ℕ) → get_or z j 0 ≡ 0) → (j : ℕ) → Dec (j < r) → get_or (replicate r 0 ++ drop r z) j 0 ≡ 0
-        zero b j (yes i) = let n = length-replicate r 0 in get_or_append_left (replicate r 0) (drop r z) 0 j (omega arith) ∙ get_or-replicate r j 0 0 i
+        zero b j (yes i) = let n : length (replicate {A = ℕ} r 0) ≡ r = length-replicate r 0 in get_or_append_left (replicate r 0) (drop r z) 0 j (omega arith) ∙ get_or-replicate r j 0 0 i
         zero b j (no i) = get_or-append_right (replicate r 0) (drop r z) r j 0 (length-replicate r 0) (omega arith) ∙ (get_or-drop r z (j - r) 0 ∙ b (r + (j - r)))

@@ -73,6 +73,10 @@ module _ {s b f v u : List ℕ} {m p : ℕ} {g : List Node} {path : List ℕ} {t
       unfolding gone_start
       replacement_stops off = stops begun more y at_first replacement_low k off
 
+      pub replacement_long : (o : ℕ) → c ≡ Ok o → length v' ≡ length b
+      unfolding gone_start
+      replacement_long o w = (gone_step begun more y at_first replacement_low k o w).stands.holds.long
+
       pub replacement_ends : (o : ℕ) → c ≡ Ok o → Walks g (set v' p (get_or v' y 0)) u' (length b) path (under g d path p t) (Ok o)
       unfolding gone_start
       replacement_ends o w = inheriting (gone_step begun more y at_first replacement_low k o w) low (let l = ap length one in omega arith) y (replaced_by_lem q.charted p low external r found y z) first
