@@ -1,7 +1,7 @@
 -- The room in five parts: states, sources, bases, holders and what stands behind them.
 -- Assumes nothing.
 use Prim.Native.Nat.{ℕ, ◌+◌, ◌-◌, ◌*◌, ◌<◌, ◌≤◌}
-use mathlib.Core.Path.{◌≡◌, ◌∙◌, ap}
+use mathlib.Core.Path.{◌≡◌, refl, ◌∙◌, ap}
 use mathlib.Core.List.{List, ◌++◌}
 use native.Mathlib.Omega.{arith}
 use Rattle.std.proofs.lemmas.List.{get_or_append_left, get_or-append_right}
@@ -15,6 +15,10 @@ pub record Parts (w v u b h z : List ℕ) (n : ℕ) : Type 0 where
   pub sources : length u ≡ n
   pub bases : length b ≡ n
   pub holders : length h ≡ n
+
+-- a room that is cut four times
+pub cut : {w v u b h z w₁ w₂ w₃ : List ℕ} {n : ℕ} → w ≡ v ++ w₁ → w₁ ≡ u ++ w₂ → w₂ ≡ b ++ w₃ → w₃ ≡ h ++ z → length v ≡ n → length u ≡ n → length b ≡ n → length h ≡ n → Parts w v u b h z n
+cut e₁ e₂ e₃ e₄ i j k l = record { whole = rw (e₁, e₂, e₃, e₄) refl; states = i; sources = j; bases = k; holders = l }
 
 -- what stands behind the n words of a
 behind : (a c : List ℕ) (n : ℕ) → length a ≡ n → (k y : ℕ) → y ≡ n + k → get_or (a ++ c) y 0 ≡ get_or c k 0
