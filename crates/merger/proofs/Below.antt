@@ -2,42 +2,38 @@
 -- Assumes nothing.
 use Prim.Native.Nat.{ℕ, ◌+◌, ◌<◌, ◌≤◌}
 use mathlib.Core.Path.{◌≡◌, refl, sym, ◌∙◌, ap}
-use mathlib.Core.Bool.{true}
+use mathlib.Core.Bool.{true, false}
 use mathlib.Core.List.{List, [], ◌∷◌, map, append-nil, Memᴰ}
-use mathlib.Core.Logic.{inl, ◌≢◌}
+use mathlib.Core.Logic.{inl}
 use Rattle.std.specs.Prelude.{Some, None, Option, Ok}
 use native.Mathlib.Omega.{arith}
-use lib.Dec.{eqb}
-use borrow.Author.Tests.{eq-eqb, ne_eqb}
 use lib.ListN.{length, get_or, set, length-map, length-take}
 use lib.Seq.{get_or-take}
-use Rattle.record.specs.Node.{node_at, nodes_of, is_external, children, renumber}
+use Rattle.record.specs.Node.{node_at, nodes_of, class, is_external, children, renumber}
 use Rattle.record.specs.declared.Node.{Node}
 use Rattle.record.proofs.Nodes.{children_renumber, not_internal, full_read}
 use Rattle.forest.specs.Graph.{at, replacement, replaced_by, listed, next}
 use Rattle.forest.specs.Walk.{State, going, onward, finish}
 use Rattle.claims.specs.Built.{no_kids}
 use Rattle.claims.specs.Children.{Bare}
-use Rattle.dense_order.proofs.Gathering.{external_kind}
 use Rattle.sorting.proofs.Uses.{get_d_map}
-use Rattle.merger.specs.Sections.{bases_at}
-use Rattle.merger.specs.Walking.{Charted, Pushing, Came, Walks, went_of, under}
+use Rattle.merger.specs.Walking.{Charted, Pushing, Holds, Walks, went_of, under}
 use Rattle.merger.proofs.Finishing.{inherits}
 use Rattle.merger.proofs.Going.{Gone, gone_done, gone_all}
 
 -- WHAT HANGS BELOW --------------------------------------------------------------------------------
 
-module _ {s w : List ℕ} {n h : ℕ} {g : List Node} (c : Charted s w n h g) (p : ℕ) (low : p < n) where
-  node_is : at g p ≡ renumber (λ k. get_or w (bases_at n + p) 0 + k) (node_at s p)
+module _ {s b f : List ℕ} {g : List Node} (c : Charted s b f g) (p : ℕ) (low : p < length b) where
+  node_is : at g p ≡ renumber (λ k. get_or b p 0 + k) (node_at s p)
   node_is = c.mapped.nodes p low
 
-  kind_is : is_external (at g p) ≡ eqb (node_at s p).kind 0
-  unfolding renumber
-  kind_is = external_kind (at g p) ∙ ap (λ (x : Node). eqb x.kind 0) node_is
+  class_is : is_external (at g p) ≡ is_external (node_at s p)
+  unfolding renumber is_external class
+  class_is = ap is_external node_is
 
-  module _ (e : (node_at s p).kind ≡ 0) where
+  module _ (e : is_external (node_at s p) ≡ true) where
     is_external_lem : is_external (at g p) ≡ true
-    is_external_lem = kind_is ∙ eq-eqb _ _ e
+    is_external_lem = class_is ∙ e
 
     replaced_is : replaced_by g p ≡ replacement g (node_at s p).digest
     unfolding replaced_by renumber
@@ -48,46 +44,46 @@ module _ {s w : List ℕ} {n h : ℕ} {g : List Node} (c : Charted s w n h g) (p
     no_children = no_kids (children (at g p)) (λ k m. not_internal (at g p) (inl is_external_lem) (c.mapped.bare p k m))
 
     -- the search for its replacement
-    module _ (r : Option ℕ) (f : r ≡ (replacement (nodes_of s) (node_at s p).digest)) where
+    module _ (r : Option ℕ) (k : r ≡ (replacement (nodes_of s) (node_at s p).digest)) where
       pub replaced_by_lem : (q : ℕ) → r ≡ Some q → replaced_by g p ≡ Some q
-      replaced_by_lem q z = replaced_is ∙ (sym (c.same _) ∙ (sym f ∙ z))
+      replaced_by_lem q z = replaced_is ∙ (sym (c.same _) ∙ (sym k ∙ z))
 
       pub next_one : (q : ℕ) → r ≡ Some q → next g p ≡ q ∷ []
       unfolding next listed
       next_one q z = rw (no_children, replaced_by_lem q z) refl
 
       pub unreplaced : r ≡ None → replaced_by g p ≡ None
-      unreplaced z = replaced_is ∙ (sym (c.same _) ∙ (sym f ∙ z))
+      unreplaced z = replaced_is ∙ (sym (c.same _) ∙ (sym k ∙ z))
 
       pub next_none : r ≡ None → next g p ≡ []
       unfolding next listed
       next_none z = rw (no_children, unreplaced z) refl
 
-  module _ (e : (node_at s p).kind ≢ 0) where
+  module _ (e : is_external (node_at s p) ≡ false) where
     pub not_replaced : replaced_by g p ≡ None
     unfolding replaced_by
-    not_replaced = rw (kind_is ∙ ne_eqb _ _ e, replaced_by) refl
+    not_replaced = rw (class_is ∙ e, replaced_by) refl
 
-    pub next_kids : next g p ≡ map (λ k. get_or w (bases_at n + p) 0 + k) (children (node_at s p))
+    pub next_kids : next g p ≡ map (λ k. get_or b p 0 + k) (children (node_at s p))
     unfolding next listed
     next_kids = rw (not_replaced, append-nil (children (at g p)), node_is) (children_renumber _ (node_at s p))
 
     kids_long : length (children (node_at s p)) ≡ (node_at s p).count
     unfolding children
-    kids_long = let a = (full_read s p).kids_long in let b = c.mapped.fit p low in omega (arith, length-take (node_at s p).count (node_at s p).kids)
+    kids_long = let a = (full_read s p).kids_long in let z = c.mapped.fit p low in omega (arith, length-take (node_at s p).count (node_at s p).kids)
 
     pub next_long : length (next g p) ≡ (node_at s p).count
     next_long = ap length next_kids ∙ (length-map (children (node_at s p)) _ ∙ kids_long)
 
-    pub next_at : (i : ℕ) → i < (node_at s p).count → get_or (next g p) i 0 ≡ get_or w (bases_at n + p) 0 + get_or (node_at s p).kids i 0
+    pub next_at : (i : ℕ) → i < (node_at s p).count → get_or (next g p) i 0 ≡ get_or b p 0 + get_or (node_at s p).kids i 0
     unfolding children
-    next_at i k = rw next_kids (get_d_map _ (children (node_at s p)) i 0 0 (omega (arith, kids_long)) ∙ ap (λ (x : ℕ). get_or w (bases_at n + p) 0 + x) (get_or-take (node_at s p).count (node_at s p).kids i 0 k))
+    next_at i k = rw next_kids (get_d_map _ (children (node_at s p)) i 0 0 (omega (arith, kids_long)) ∙ ap (λ (x : ℕ). get_or b p 0 + x) (get_or-take (node_at s p).count (node_at s p).kids i 0 k))
 
 -- THE FINISH --------------------------------------------------------------------------------------
 
-module _ {s w₀ w : List ℕ} {n h d m i p : ℕ} {g : List Node} {path : List ℕ} {t : State} (a : Gone s w₀ w n h d m i g (p ∷ path) (next g p) t) (low : p < n) (all : length (next g p) ≤ i) where
+module _ {s b f v u : List ℕ} {d m i p : ℕ} {g : List Node} {path : List ℕ} {t : State} (a : Gone s b f v u d m i g (p ∷ path) (next g p) t) (low : p < length b) (all : length (next g p) ≤ i) where
   -- all that hangs below is finished, and p is not replaced
-  pub pushing : ¬ Memᴰ p path → replaced_by g p ≡ None → Pushing s w n m p g path a.state
+  pub pushing : ¬ Memᴰ p path → replaced_by g p ≡ None → Pushing s b v u m p g path a.state
   pushing new e = record {
     mapped = a.stands.charted.mapped;
     fine = a.stands.fine;
@@ -100,18 +96,17 @@ module _ {s w₀ w : List ℕ} {n h d m i p : ℕ} {g : List Node} {path : List 
   }
 
   -- and then it is finished itself
-  pub finishes : {w' : List ℕ} (r : ℕ) → (r ≡ length (finish g p a.state).merged) × Came g w w' n path (finish g p a.state) → Walks g w₀ w' n path (under g d path p t) (Ok r)
+  pub finishes : {v' u' : List ℕ} (r : ℕ) → (r ≡ length (finish g p a.state).merged) × Holds g v' u' (length b) path (finish g p a.state) → Walks g v' u' (length b) path (under g d path p t) (Ok r)
   unfolding under went_of onward
-  finishes {w'} r (e, b) =
+  finishes {v'} {u'} r (e, h) =
       let z : under g d path p t ≡ going (finish g p a.state) = rw (gone_done a all) refl in
-      rw z (record { answer = ap (λ (k : ℕ). Ok k) e; came = λ u y. from u y })
+      rw z (record { answer = ap (λ (k : ℕ). Ok k) e; came = λ j y. from j y })
     where
-      from : (u : State) → going (finish g p a.state) ≡ going u → Came g w₀ w' n path u
-      from u y = let x : finish g p a.state ≡ u = cc in rw (sym x) (record { holds = b.holds; rest = λ j k. b.rest j k ∙ a.rest j k })
+      from : (j : State) → going (finish g p a.state) ≡ going j → Holds g v' u' (length b) path j
+      from j y = let x : finish g p a.state ≡ j = cc in rw (sym x) h
 
   -- with its replacement's id
-  pub inheriting : (q : ℕ) → replaced_by g p ≡ Some q → Memᴰ q (next g p) → Walks g w₀ (set w p (get_or w q 0)) n path (under g d path p t) (Ok m)
+  pub inheriting : (q : ℕ) → replaced_by g p ≡ Some q → Memᴰ q (next g p) → Walks g (set v p (get_or v q 0)) u (length b) path (under g d path p t) (Ok m)
   inheriting q e k =
-      let z = a.stands.charted.mapped.room in
-      let (x, y) = inherits a.stands.fine a.stands.holds low (omega arith) e (gone_all a all q k) in
+      let (x, y) = inherits a.stands.fine a.stands.holds low e (gone_all a all q k) in
       finishes m (a.stands.counted ∙ x, y)

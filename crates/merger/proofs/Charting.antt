@@ -1,12 +1,14 @@
--- Before the walk: bases and holders are written into a room of zeros, so that it charts the joined graph.
+-- Before the walk: bases and holders are written into a room of zeros, so that its parts chart the joined graph; and what the walk leaves there.
 -- Assumes nothing.
-use Prim.Native.Nat.{ℕ, ◌+◌, ◌/◌, ◌<◌}
+use Prim.Native.Nat.{ℕ, ◌+◌, ◌-◌, ◌/◌, ◌<◌, ◌≤◌}
 use mathlib.Core.Path.{◌≡◌, refl, sym, ◌∙◌}
 use mathlib.Core.Bool.{not, ◌&&◌}
 use mathlib.Core.List.{List, [], Memᴰ}
 use Rattle.std.specs.Prelude.{None}
 use native.Mathlib.Omega.{arith}
-use lib.ListN.{length, get_or, replicate}
+use native.Mathlib.Decide.{dec_lt}
+use Rattle.std.proofs.lemmas.List.{get_or_past}
+use lib.ListN.{length, take, get_or, replicate}
 use Rattle.record.specs.Lists.{same}
 use Rattle.record.specs.Node.{size, nodes_of, class, is_external, renumber}
 use Rattle.record.specs.declared.Node.{Node}
@@ -27,11 +29,12 @@ use Rattle.sorting.proofs.Uses.{all_listed, at_node_lem}
 use Rattle.dense_order.proofs.Arranging.{blank_room}
 use Rattle.dense_order.proofs.Fairness.{count_fits}
 use Rattle.dense_order.specs.Found.{Checked}
-use Rattle.merger.specs.Sections.{bases_at}
+use Rattle.merger.specs.Sections.{bases_at, spare_at}
 use Rattle.merger.specs.Steps.{Past, walk_of, Ends}
 use Rattle.merger.specs.Table.{starts, Bases}
-use Rattle.merger.specs.Walking.{Mapped, Charted, Roomy, Shelved, Walks, Begun}
-use Rattle.merger.proofs.Holding.{mapped_kept}
+use Rattle.merger.specs.Walking.{Mapped, Charted, Roomy, Ample, Shelved, Walks, Begun, MappedIn}
+use Rattle.merger.proofs.Fine.{fine_few}
+use Rattle.merger.proofs.Parts.{Parts, parts_long, at_state, at_source, at_base, at_spare}
 use Rattle.merger.proofs.Passing.{Fits, sizes_fit, passes}
 use Rattle.merger.proofs.Roots.{roots_are, walk_fine}
 
@@ -55,8 +58,8 @@ module _ {limit : ℕ} {i : Input} {w : List ℕ} {n : ℕ} (past : Past limit i
   pub roomy : {w₁ : List ℕ} → length w₁ ≡ length w → Roomy i.nodes w₁ n
   roomy l = let e = summed in let a = fits.most_nodes in let b = fits.room in record { counted = counted; few = omega arith; room = omega arith }
 
-  -- w₁ is cleared, w₂ has the bases and w₃ the h holders
-  module _ {w₁ w₂ w₃ : List ℕ} {h : ℕ} (cleared : w₁ ≡ replicate (length w) 0) (based : Bases i.table w₁ w₂ n) (shelved : Shelved i.nodes w₂ w₃ n h) (long : length w₃ ≡ length w) where
+  -- w₁ is cleared, and w₂ has the bases
+  module _ {w₁ w₂ : List ℕ} (cleared : w₁ ≡ replicate (length w) 0) (based : Bases i.table w₁ w₂ n) where
     zeros : (y : ℕ) → get_or w₁ y 0 ≡ 0
     zeros = let a = roomy {w₁ = w} refl in (blank_room {s = i.nodes} {w = w} {n = n} (record { counted = counted; few = a.few; room = a.room }) cleared).zeros
 
@@ -77,48 +80,92 @@ module _ {limit : ℕ} {i : Input} {w : List ℕ} {n : ℕ} (past : Past limit i
     unfolding graph forests_of
     based_at p l = based.bases (nodes_of i.nodes) i.roots (length_nodes_of i.nodes ∙ sym counted) p l
 
-    mapped : Mapped i.nodes w₃ n (graph i)
-    mapped = record {
-      counted = counted;
-      few = (roomy {w₁ = w₃} long).few;
-      room = (roomy {w₁ = w₃} long).room;
-      long = counts;
-      nodes = λ p l. rw (shelved.before (bases_at n + p) (omega arith), ← at_node_lem i.nodes p (omega arith)) (based_at p l);
-      fit = λ p l. count_fits i.nodes good p (omega arith);
-      inside = λ p c m. let k = step_below _ _ _ within p c (next_step (graph i) p c m) in let e = summed in omega arith;
-      bare = proper_bare (graph i) (graph_each Proper proper_renumber i (records_proper i.nodes good));
-    }
-
     alike : (p : ℕ) → p < length i.nodes / size → (is_external (at (graph i) p) ≡ is_external (at (nodes_of i.nodes) p)) × ((at (graph i) p).digest ≡ (at (nodes_of i.nodes) p).digest)
     unfolding renumber is_external class
     alike p l = rw (based_at p (omega arith)) (refl, refl)
 
-    pub charted : Charted i.nodes w₃ n h (graph i)
-    charted = record { mapped = mapped; held = shelved.held; same = λ d. same_holders i.nodes (graph i) (counts ∙ counted) alike d }
+    -- it is cut into five parts
+    module _ {v u b h z : List ℕ} (parts : Parts w₂ v u b h z n) (long : length w₂ ≡ length w) where
+      pub ample : Ample i.nodes h
+      ample = let a = roomy {w₁ = w} refl in let e = parts.holders in record { counted = e ∙ counted; few = rw e a.few }
 
-    pub begun : Begun i.table i.nodes i.roots w₃ n h
-    begun = record {
-      graph = graph i;
-      charted = charted;
-      blank = λ y l. shelved.before y (omega arith) ∙ (based.rest y (λ k. absurd (omega arith)) ∙ zeros y);
-      long = fits.roots;
-      near = λ x m. near x (rw (roots_are i) m);
-    }
+      pub spare_long : length h ≤ length z
+      spare_long = let a = (roomy {w₁ = w} refl).room in let e = parts.holders in let l = parts_long parts in omega arith
 
-    -- w₄ is what the walk leaves, which answers r
-    module _ {w₄ : List ℕ} {r : Checked ℕ} (long' : length w₄ ≡ length w₃) (walks : (g : List Node) → Charted i.nodes w₃ n h g → Walks g w₃ w₄ n [] (walk g limit (starts i.table i.roots)) r) where
-      pub ends : Ends limit i w₄ n r
-      unfolding walk_of
-      ends =
-          let k = rw (← roots_are i) at (walks (graph i) charted) in
+      blank : (p : ℕ) → Dec (p < n) → get_or v p 0 ≡ 0
+      blank p (yes l) = sym (at_state parts p l) ∙ (based.rest p (λ k. absurd (omega arith)) ∙ zeros p)
+      blank p (no l) = get_or_past v p 0 (let e = parts.states in omega arith)
+
+      spare_blank : (y : ℕ) → get_or z y 0 ≡ 0
+      spare_blank y = sym (at_spare parts y) ∙ (based.rest (spare_at n + y) (λ k. omega arith) ∙ zeros (spare_at n + y))
+
+      mapped : Mapped i.nodes b (graph i)
+      mapped =
+          let e = parts.bases in
           record {
-            answer = k.answer;
-            ended = λ t e. let c = k.came t e in
-                record {
-                  mapped = mapped_kept long' c.rest mapped;
-                  fine = walk_fine (graph i) n mapped.inside limit (roots_of i) t e near;
-                  holds = c.holds;
-                  counted = refl;
-                  zeros = λ y l. c.rest y (omega arith) ∙ shelved.zeros (λ x v. based.rest x (λ u. omega arith) ∙ zeros x) y l;
-                };
+            counted = e ∙ counted;
+            few = rw e (roomy {w₁ = w} refl).few;
+            long = counts ∙ sym e;
+            nodes = λ p l. rw (← at_base parts p (omega arith), ← at_node_lem i.nodes p (omega arith)) (based_at p (omega arith));
+            fit = λ p l. count_fits i.nodes good p (omega arith);
+            inside = λ p c m. let k = step_below _ _ _ within p c (next_step (graph i) p c m) in let y = summed in omega arith;
+            bare = proper_bare (graph i) (graph_each Proper proper_renumber i (records_proper i.nodes good));
           }
+
+      -- the holders are sorted, r of them
+      module _ {h' z' : List ℕ} {r : ℕ} (shelved : Shelved i.nodes h h' z z' r) where
+        pub charted : Charted i.nodes b (take r h') (graph i)
+        charted = record { mapped = mapped; held = shelved.held; same = λ d. same_holders i.nodes (graph i) (counts ∙ counted) alike d }
+
+        pub begun : Begun i.table i.nodes i.roots b (take r h') v u
+        begun =
+            let e = parts.bases in
+            record {
+              graph = graph i;
+              charted = charted;
+              tall = parts.states ∙ sym e;
+              wide = parts.sources ∙ sym e;
+              blank = λ p. blank p (dec_lt p n);
+              long = fits.roots;
+              near = λ x m. rw e (near x (rw (roots_are i) m));
+            }
+
+        -- the walk leaves the room w₃, and answers a
+        module _ {v' u' w₃ : List ℕ} {a : Checked ℕ} (left : Parts w₃ v' u' b h' z' n) (long' : length w₃ ≡ length w)
+            (walks : (g : List Node) → Charted i.nodes b (take r h') g → Walks g v' u' (length b) [] (walk g limit (starts i.table i.roots)) a) where
+          mapped_in : MappedIn i.nodes w₃ n (graph i)
+          mapped_in =
+              let e = parts.bases in
+              let m = mapped in
+              let y = roomy {w₁ = w₃} long' in
+              record {
+                counted = counted;
+                few = y.few;
+                room = y.room;
+                long = counts;
+                nodes = λ p l. rw (at_base left p l) (m.nodes p (omega arith));
+                fit = λ p l. m.fit p (omega arith);
+                inside = λ p c k. rw (← e) (m.inside p c k);
+                bare = m.bare;
+              }
+
+          pub ends : Ends limit i w₃ n a
+          unfolding walk_of
+          ends =
+              let k = rw (← roots_are i) at (walks (graph i) charted) in
+              record {
+                answer = k.answer;
+                ended = λ t e.
+                    let c = rw parts.bases at (k.came t e) in
+                    let f = walk_fine (graph i) n mapped_in.inside limit (roots_of i) t e near in
+                    record {
+                      mapped = mapped_in;
+                      fine = f;
+                      holds = record {
+                        states = λ p l. at_state left p l ∙ c.states p l;
+                        sources = λ j l. rw (at_source left j (let m = fine_few f in omega arith)) (c.sources j l);
+                      };
+                      counted = refl;
+                      zeros = λ y l. let o : spare_at n + (y - spare_at n) ≡ y = omega arith in rw o at (at_spare left (y - spare_at n)) ∙ shelved.zeros spare_blank (y - spare_at n);
+                    };
+              }

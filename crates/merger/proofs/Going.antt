@@ -15,10 +15,8 @@ use Rattle.forest.specs.declared.Reply.{Reply}
 use Rattle.forest.specs.Walk.{State, Walked, going, cycle, deep, onward, each, visit}
 use Rattle.claims.specs.Sound.{Finished}
 use Rattle.dense_order.specs.Found.{Checked}
-use Rattle.merger.specs.Sections.{bases_at}
 use Rattle.merger.specs.Walking.{Stands, went_of, Walks}
 use Rattle.merger.proofs.Fine.{visit_fine}
-use Rattle.merger.proofs.Holding.{charted_kept}
 
 -- ANSWERS -----------------------------------------------------------------------------------------
 
@@ -46,18 +44,17 @@ off_not o u f e = f (length u.merged) (rw e refl)
 
 -- THE FIRST i -------------------------------------------------------------------------------------
 
--- the first i of l are taken from t on, in the room w₀, and the walk has come to a state that the room w holds
-pub record Gone (s w₀ w : List ℕ) (n h d m i : ℕ) (g : List Node) (path l : List ℕ) (t : State) : Type 0 where
+-- the first i of l are taken from t on, and the walk has come to a state that the states v and the sources u hold
+pub record Gone (s b f v u : List ℕ) (d m i : ℕ) (g : List Node) (path l : List ℕ) (t : State) : Type 0 where
   pub state : State
   pub same : each (visit g d path) l t ≡ each (visit g d path) (drop i l) state
-  pub stands : Stands s w n h m g path state
+  pub stands : Stands s b f v u m g path state
   pub ended : (x : ℕ) → Memᴰ x (take i l) → Finished state x
-  pub rest : (y : ℕ) → bases_at n ≤ y → get_or w y 0 ≡ get_or w₀ y 0
 
-unfoldable pub gone_start : {s w : List ℕ} {n h m : ℕ} {g : List Node} {path : List ℕ} {t : State} (d : ℕ) (l : List ℕ) → Stands s w n h m g path t → Gone s w w n h d m 0 g path l t
-gone_start {t = t} d l q = record { state = t; same = refl; stands = q; ended = λ x k. absurd (Memᴰ.not-nil k); rest = λ y k. refl }
+unfoldable pub gone_start : {s b f v u : List ℕ} {m : ℕ} {g : List Node} {path : List ℕ} {t : State} (d : ℕ) (l : List ℕ) → Stands s b f v u m g path t → Gone s b f v u d m 0 g path l t
+gone_start {t = t} d l q = record { state = t; same = refl; stands = q; ended = λ x k. absurd (Memᴰ.not-nil k) }
 
-module _ {s w₀ w : List ℕ} {n h d m i : ℕ} {g : List Node} {path l : List ℕ} {t : State} (a : Gone s w₀ w n h d m i g path l t) where
+module _ {s b f v u : List ℕ} {d m i : ℕ} {g : List Node} {path l : List ℕ} {t : State} (a : Gone s b f v u d m i g path l t) where
   -- all are taken
   pub gone_done : length l ≤ i → each (visit g d path) l t ≡ going a.state
   unfolding each
@@ -70,35 +67,33 @@ module _ {s w₀ w : List ℕ} {n h d m i : ℕ} {g : List Node} {path l : List 
       take_all_of = take_all i l k
 
   module _ (more : i < length l) (x : ℕ) (is : x ≡ get_or l i 0) where
-    next_taken : each (visit g d path) l t ≡ onward (visit g d path x a.state) (λ u. each (visit g d path) (drop (suc i) l) u)
+    next_taken : each (visit g d path) l t ≡ onward (visit g d path x a.state) (λ j. each (visit g d path) (drop (suc i) l) j)
     unfolding each
     next_taken = a.same ∙ rw (drop-cons l i 0 more, is) refl
 
-    module _ {w' : List ℕ} {r : Checked ℕ} (low : x < n) (long : length w' ≡ length w) (k : Walks g w w' n path (visit g d path x a.state) r) where
-      pub gone_step : (c : ℕ) → r ≡ Ok c → Gone s w₀ w' n h d c (i + 1) g path l t
+    module _ {v' u' : List ℕ} {r : Checked ℕ} (low : x < length b) (k : Walks g v' u' (length b) path (visit g d path x a.state) r) where
+      pub gone_step : (c : ℕ) → r ≡ Ok c → Gone s b f v' u' d c (i + 1) g path l t
       unfolding onward
       gone_step c e = from (on_going (visit g d path x a.state) c (sym k.answer ∙ e))
         where
-          from : (u : State) × (visit g d path x a.state ≡ going u) × (c ≡ length u.merged) → Gone s w₀ w' n h d c (i + 1) g path l t
-          from (u, z, v) =
-              let b = k.came u z in
-              let f = visit_fine g n a.stands.charted.mapped.inside d path x a.state u z low a.stands.fine in
+          from : (j : State) × (visit g d path x a.state ≡ going j) × (c ≡ length j.merged) → Gone s b f v' u' d c (i + 1) g path l t
+          from (j, z, y) =
+              let w = visit_fine g (length b) a.stands.charted.mapped.inside d path x a.state j z low a.stands.fine in
               record {
-                state = u;
+                state = j;
                 same = next_taken ∙ rw (z, add-one) refl;
-                stands = record { charted = charted_kept long b.rest a.stands.charted; fine = f.fine; holds = b.holds; counted = v };
-                ended = λ y j. or y (f.kept y) f.done (Memᴰ.append_cases (take i l) (rw (add-one, take-suc l i 0 more) at j));
-                rest = λ y j. b.rest y j ∙ a.rest y j;
+                stands = record { charted = a.stands.charted; fine = w.fine; holds = k.came j z; counted = y };
+                ended = λ o n. or o (w.kept o) w.done (Memᴰ.append_cases (take i l) (rw (add-one, take-suc l i 0 more) at n));
               }
             where
-              or : (y : ℕ) → (Finished a.state y → Finished u y) → Finished u x → Memᴰ y (take i l) ⊎ Memᴰ y (get_or l i 0 ∷ []) → Finished u y
-              or y keep new (inl j) = keep (a.ended y j)
-              or y keep new (inr j) = rw (Memᴰ.eq_of_singleton j ∙ sym is) new
+              or : (y : ℕ) → (Finished a.state y → Finished j y) → Finished j x → Memᴰ y (take i l) ⊎ Memᴰ y (get_or l i 0 ∷ []) → Finished j y
+              or y keep new (inl n) = keep (a.ended y n)
+              or y keep new (inr n) = rw (Memᴰ.eq_of_singleton n ∙ sym is) new
 
-      pub gone_stops : ((c : ℕ) → r ≡ Ok c → ⊥) → (f : State → Walked) → (r ≡ went_of (onward (each (visit g d path) l t) f)) × ((u : State) → onward (each (visit g d path) l t) f ≡ going u → ⊥)
-      gone_stops off f =
+      pub gone_stops : ((c : ℕ) → r ≡ Ok c → ⊥) → (h : State → Walked) → (r ≡ went_of (onward (each (visit g d path) l t) h)) × ((j : State) → onward (each (visit g d path) l t) h ≡ going j → ⊥)
+      gone_stops off h =
           let o : Walked = visit g d path x a.state in
           let z : (c : ℕ) → went_of o ≡ Ok c → ⊥ = λ c e. off c (k.answer ∙ e) in
           let e : each (visit g d path) l t ≡ o = next_taken ∙ off_stops o _ z in
-          let v : onward (each (visit g d path) l t) f ≡ o = ap (λ (j : Walked). onward j f) e ∙ off_stops o f z in
-          (k.answer ∙ ap went_of (sym v), λ u y. off_not o u z (sym v ∙ y))
+          let w : onward (each (visit g d path) l t) h ≡ o = ap (λ (j : Walked). onward j h) e ∙ off_stops o h z in
+          (k.answer ∙ ap went_of (sym w), λ j y. off_not o j z (sym w ∙ y))

@@ -1,15 +1,16 @@
 -- Laws of delivering: what the settled room gives the three writers, and that they write the merged forest.
 -- Assumes nothing.
-use Prim.Native.Nat.{ℕ, ◌+◌, ◌*◌, ◌<◌, ◌≤◌}
+use Prim.Native.Nat.{ℕ, ◌+◌, ◌-◌, ◌*◌, ◌<◌, ◌≤◌}
 use mathlib.Core.Path.{◌≡◌, refl, sym, ◌∙◌, ap}
 use mathlib.Core.List.{List, map, Memᴰ}
 use Rattle.std.specs.Prelude.{Option, Some, None}
 use native.Mathlib.Omega.{arith}
-use lib.ListN.{length, get_or, length-map}
-use lib.Seq.{ext_get_or}
+use lib.ListN.{length, take, drop, get_or, length-map, length-take, length-drop}
+use lib.Seq.{ext_get_or, get_or-take, get_or-drop}
 use Rattle.record.specs.Lists.{run, over, flat}
 use Rattle.record.specs.Node.{node_at, node_bytes, children, renumber}
 use Rattle.record.specs.declared.Node.{Node}
+use Rattle.record.proofs.Lengths.{length_run}
 use Rattle.record.proofs.Nodes.{children_renumber}
 use Rattle.forest.specs.Graph.{no_node, at, listed, replaced_by, next}
 use Rattle.forest.specs.Lent.{work_words, most}
@@ -17,17 +18,16 @@ use Rattle.forest.specs.Merge.{carried, merged}
 use Rattle.forest.specs.Order.{ids, order, place_in, arranged}
 use Rattle.forest.specs.Walk.{State, id_in, or_none, id_of}
 use Rattle.claims.specs.Places.{at_arranged}
-use Rattle.claims.specs.Sorts.{run_in}
 use Rattle.claims.specs.Sound.{Finished, in_id_in}
 use Rattle.claims.specs.Walks.{id_in_in}
 use Rattle.room.specs.Sections.{span}
-use Rattle.room.proofs.Spans.{span_length, span_at}
 use Rattle.sorting.proofs.Uses.{get_d_map}
-use Rattle.dense_order.proofs.Delivering.{map_agree, renumber_agree}
-use Rattle.merger.specs.Rooms.{Writable, shown_as}
+use Rattle.dense_order.proofs.Delivering.{renumber_agree}
+use Rattle.dense_order.proofs.Filling.{ids_at}
+use Rattle.merger.specs.Rooms.{shown_as}
 use Rattle.merger.specs.Sections.{bases_at, order_at, starts_at}
 use Rattle.merger.specs.Settling.{carried_word, Settled, Delivered}
-use Rattle.merger.specs.Walking.{merged_at}
+use Rattle.merger.specs.Walking.{Writable, merged_at}
 use Rattle.merger.proofs.Renumbering.{renumber_twice}
 use Rattle.merger.proofs.Writing.{shown_none, shown_id}
 
@@ -62,35 +62,73 @@ module _ {s w : List ℕ} {n m count : ℕ} {g : List Node} {ps : List ℕ} {t :
       let (i, e) = in_id_in t.done (kid j c) (a.fine.closed (source j) (kid j c) (source_ended j h) q) in
       (b, a.ids (kid j c) b ∙ rw e refl)
 
-  pub writable : Writable s w n m
-  writable = record {
-    roomy = record { counted = a.mapped.counted; few = a.mapped.few; room = a.mapped.room };
-    some = a.few;
-    readable = λ j h. record { below = source_below j h; fit = a.mapped.fit (source j) (source_below j h); ended = λ c k. let (x, y) = kid_word j h c k in (x, omega arith) };
-  }
-
   pub room_given : (n ≤ most) × (work_words * n ≤ length w)
   room_given = (a.mapped.few, a.mapped.room)
 
+  -- the sections that the writers read
+  abbrev bases : List ℕ
+  bases = take (bases_at n + n - bases_at n) (drop (bases_at n) w)
+
+  abbrev states : List ℕ
+  states = take n w
+
+  abbrev placed : List ℕ
+  placed = take (order_at n + m - order_at n) (drop (order_at n) w)
+
+  abbrev heads : List ℕ
+  heads = take (starts_at n + count - starts_at n) (drop (starts_at n) w)
+
+  bases_long : length bases ≡ n
+  bases_long = let f = a.mapped.room in simp (length-take, length-drop) (omega arith)
+
+  states_long : length states ≡ n
+  states_long = let f = a.mapped.room in simp length-take (omega arith)
+
+  pub placed_long : length placed ≡ m
+  placed_long = let f = a.mapped.room in let k = a.few in simp (length-take, length-drop) (omega arith)
+
+  pub heads_long : length heads ≡ count
+  heads_long = let f = a.mapped.room in let k = a.less in simp (length-take, length-drop) (omega arith)
+
+  base_at : (p : ℕ) → p < n → get_or bases p 0 ≡ get_or w (bases_at n + p) 0
+  base_at p h = get_or-take (bases_at n + n - bases_at n) (drop (bases_at n) w) p 0 (omega arith) ∙ get_or-drop (bases_at n) w p 0
+
+  state_at : (p : ℕ) → p < n → get_or states p 0 ≡ get_or w p 0
+  state_at p h = get_or-take n w p 0 h
+
+  placed_at : (j : ℕ) → j < m → get_or placed j 0 ≡ source j
+  placed_at j h = get_or-take (order_at n + m - order_at n) (drop (order_at n) w) j 0 (omega arith) ∙ get_or-drop (order_at n) w j 0
+
+  pub writable : Writable s bases states placed
+  writable j h =
+      let i : j < m = let l = placed_long in omega arith in
+      let low = source_below j i in
+      rw (placed_at j i) (record {
+        below = let l = bases_long in omega arith;
+        within = let c = a.mapped.counted in omega arith;
+        few = let l = bases_long in let c = a.mapped.few in omega arith;
+        fit = a.mapped.fit (source j) low;
+        ended = λ c k. let (x, y) = kid_word j i c k in rw (base_at (source j) low) (let l = states_long in omega arith, let z = state_at (kid j c) x in omega arith);
+      })
+
   -- the node that is written at place j of the order
-  node_is : (j : ℕ) → j < m → merged_at s w n (source j) ≡ renumber (place_in o) (at t.merged (get_or o j 0))
+  node_is : (j : ℕ) → j < m → merged_at s bases states (source j) ≡ renumber (place_in o) (at t.merged (get_or o j 0))
   unfolding merged_at
   node_is j h =
-      rw ((a.sources j h).node, a.mapped.nodes (source j) (source_below j h), renumber_twice (id_of t) (λ c. kid j c) (node_at s (source j)), renumber_twice (place_in o) (λ c. id_of t (kid j c)) (node_at s (source j)))
-      (renumber_agree _ _ (node_at s (source j)) (λ c k. let (x, y) = kid_word j h c k in omega arith))
+      let low = source_below j h in
+      rw ((a.sources j h).node, a.mapped.nodes (source j) low, renumber_twice (id_of t) (λ c. kid j c) (node_at s (source j)), renumber_twice (place_in o) (λ c. id_of t (kid j c)) (node_at s (source j)))
+      (renumber_agree _ _ (node_at s (source j)) (λ c k. let (x, y) = kid_word j h c k in rw (base_at (source j) low) (let z = state_at (kid j c) x in omega arith)))
 
-  nodes_are : map (merged_at s w n) (span w (order_at n) (order_at n + m)) ≡ arranged t.merged o
+  nodes_are : map (merged_at s bases states) placed ≡ arranged t.merged o
   unfolding at arranged
   nodes_are =
-      let f = a.mapped.room in
-      let k = a.few in
       let e = a.nodes in
-      let l = span_length w (order_at n) (order_at n + m) (omega arith) in
-      let p : length (map (merged_at s w n) (span w (order_at n) (order_at n + m))) ≡ length (span w (order_at n) (order_at n + m)) = length-map (span w (order_at n) (order_at n + m)) _ in
+      let l = placed_long in
+      let p : length (map (merged_at s bases states) placed) ≡ length placed = length-map placed _ in
       let q : length (arranged t.merged o) ≡ length o = length-map o _ in
-      ext_get_or no_node (map (merged_at s w n) (span w (order_at n) (order_at n + m))) (arranged t.merged o) (omega arith) (λ j b.
-      get_d_map (merged_at s w n) (span w (order_at n) (order_at n + m)) j 0 no_node (omega arith)
-      ∙ (ap (merged_at s w n) (span_at w (order_at n) (order_at n + m) j (omega arith)) ∙ (node_is j (omega arith) ∙ sym (at_arranged t.merged o j (omega arith)))))
+      ext_get_or no_node (map (merged_at s bases states) placed) (arranged t.merged o) (omega arith) (λ j i.
+      get_d_map (merged_at s bases states) placed j 0 no_node (omega arith)
+      ∙ (ap (merged_at s bases states) (placed_at j (omega arith)) ∙ (node_is j (omega arith) ∙ sym (at_arranged t.merged o j (omega arith)))))
 
   -- the id that is written for a position
   id_is : (p : ℕ) → p < n → shown_as (get_or w p 0) ≡ carried t o p
@@ -101,11 +139,22 @@ module _ {s w : List ℕ} {n m count : ℕ} {g : List Node} {ps : List ℕ} {t :
       go None e = rw (e, carried) (sym (shown_none 0 (omega arith)))
       go (Some i) e = rw (e, carried) (sym (shown_id (place_in o i + 2) (omega arith)) ∙ omega arith)
 
-  pub delivered : {a₀ a' b₀ b' c' : List ℕ} → a' ≡ over a₀ 0 (flat node_bytes (map (merged_at s w n) (span w (order_at n) (order_at n + m)))) → b' ≡ over b₀ 0 (span w (starts_at n) (starts_at n + count)) → c' ≡ map (λ p. shown_as (get_or w p 0)) (run 0 n)
+  ids_are : map shown_as states ≡ map (carried t o) (run 0 n)
+  ids_are =
+      let l = states_long in
+      let k = length_run 0 n in
+      let p : length (map shown_as states) ≡ length states = length-map states _ in
+      let q : length (map (carried t o) (run 0 n)) ≡ length (run 0 n) = length-map (run 0 n) _ in
+      ext_get_or 0 (map shown_as states) (map (carried t o) (run 0 n)) (omega arith) (λ j i.
+      get_d_map shown_as states j 0 0 (omega arith)
+      ∙ (ap shown_as (state_at j (omega arith))
+      ∙ (id_is j (omega arith) ∙ sym (get_d_map (carried t o) (run 0 n) j 0 0 (omega arith) ∙ ap (carried t o) (ids_at n j (omega arith))))))
+
+  pub delivered : {a₀ a' b₀ b' c' : List ℕ} → a' ≡ over a₀ 0 (flat node_bytes (map (merged_at s bases states) placed)) → b' ≡ over b₀ 0 heads → c' ≡ map shown_as states
       → Delivered g ps t a₀ a' b₀ b' c'
-  unfolding merged ids
+  unfolding merged ids span
   delivered {a₀} {a'} {b₀} {b'} {c'} x y z = record {
     nodes = x ∙ ap (λ (l : List Node). over a₀ 0 (flat node_bytes l)) nodes_are;
     roots = y ∙ ap (over b₀ 0) a.roots;
-    ids_are = z ∙ rw a.mapped.long (map_agree _ _ (run 0 n) (λ p k. let (u, v) = run_in 0 n p k in id_is p (omega arith)));
+    ids_are = z ∙ rw a.mapped.long ids_are;
   }

@@ -1,6 +1,6 @@
--- How the work room holds the walk's state: words of positions, sources of merged ids, and what opening and finishing do to them.
+-- How the lists of a walk hold its state: the words of positions; and what a walk that goes over the same lists keeps.
 -- Assumes nothing.
-use Prim.Native.Nat.{ℕ, ◌+◌, ◌<◌, ◌≤◌}
+use Prim.Native.Nat.{ℕ, ◌+◌, ◌<◌}
 use mathlib.Core.Path.{◌≡◌, refl, ◌∙◌}
 use mathlib.Core.Bool.{Bool, true, false}
 use mathlib.Core.List.Memᴰ
@@ -14,12 +14,11 @@ use Rattle.record.specs.Node.{children}
 use Rattle.record.specs.declared.Node.{Node}
 use Rattle.forest.specs.Graph.{at, next, listed, replaced_by}
 use Rattle.forest.specs.Lists.{has}
-use Rattle.forest.specs.Walk.{State, id_in, or_none, id_of}
+use Rattle.forest.specs.Walk.{State, Walked, id_in, or_none, id_of}
 use Rattle.claims.specs.Sound.{Finished, in_id_in}
-use Rattle.room.specs.Sections.{span}
-use Rattle.room.proofs.Spans.{span_same}
-use Rattle.merger.specs.Sections.{bases_at, holders_at}
-use Rattle.merger.specs.Walking.{Mapped, Charted, word, Holds}
+use Rattle.dense_order.specs.Found.{Checked}
+use Rattle.merger.specs.Walking.{word, Holds, Stands, Pushing, Kept, Walks}
+use Rattle.merger.specs.declared.merging.Walk.{Walk}
 
 -- WORDS -------------------------------------------------------------------------------------------
 
@@ -50,7 +49,7 @@ unfolding word
 word_some o b i e = rw e
 
 -- a finished position's word
-pub word_of : {g : List Node} {w : List ℕ} {n : ℕ} {path : List ℕ} {t : State} → Holds g w n path t → (x : ℕ) → x < n → Finished t x → get_or w x 0 ≡ id_of t x + 2
+pub word_of : {g : List Node} {v u : List ℕ} {n : ℕ} {path : List ℕ} {t : State} → Holds g v u n path t → (x : ℕ) → x < n → Finished t x → get_or v x 0 ≡ id_of t x + 2
 unfolding id_of or_none
 word_of {t = t} h x l f = let (i, e) = in_id_in t.done x f in h.states x l ∙ (word_some _ _ i e ∙ rw e refl)
 
@@ -74,33 +73,29 @@ id_in_other d p i x h = rw (ne_eqb x p h, id_in)
 
 -- THE GRAPH ---------------------------------------------------------------------------------------
 
--- what a step that changes nothing from the bases on keeps
-pub mapped_kept : {s w w' : List ℕ} {n : ℕ} {g : List Node} → length w' ≡ length w → ((y : ℕ) → bases_at n ≤ y → get_or w' y 0 ≡ get_or w y 0) → Mapped s w n g → Mapped s w' n g
-mapped_kept {s} {w} {w'} {n} {g} l r m = record {
-  counted = m.counted;
-  few = m.few;
-  room = rw l m.room;
-  long = m.long;
-  nodes = λ p h. rw (r (bases_at n + p) (omega arith)) (m.nodes p h);
-  fit = m.fit;
-  inside = m.inside;
-  bare = m.bare;
-}
-
-pub charted_kept : {s w w' : List ℕ} {n h : ℕ} {g : List Node} → length w' ≡ length w → ((y : ℕ) → bases_at n ≤ y → get_or w' y 0 ≡ get_or w y 0) → Charted s w n h g → Charted s w' n h g
-charted_kept {s} {w} {w'} {n} {h} {g} l r c =
-    let e : span w' (holders_at n) (holders_at n + h) ≡ span w (holders_at n) (holders_at n + h) = span_same w' w (holders_at n) (holders_at n + h) l c.held.fits (λ p a b. r p (omega arith)) in
-    record {
-      mapped = mapped_kept l r c.mapped;
-      held = record {
-        fits = rw l c.held.fits;
-        shelf = record { listed = rw e c.held.shelf.listed; ordered = rw e c.held.shelf.ordered };
-        last = rw e c.held.last;
-      };
-      same = c.same;
-    }
-
 -- a child is among what hangs below
 pub child_next : (g : List Node) (p c : ℕ) → Memᴰ c (children (at g p)) → Memᴰ c (next g p)
 unfolding next
 child_next g p c m = Memᴰ.append_left (listed (replaced_by g p)) m
+
+-- WALKS OVER THE SAME LISTS -----------------------------------------------------------------------
+
+pub kept_same : (x : Walk) → Kept x x
+kept_same x = record { nodes = refl; bases = refl; shelf = refl; states = refl; sources = refl }
+
+pub kept_again : {x y z : Walk} → Kept x y → Kept y z → Kept x z
+kept_again a b = record { nodes = b.nodes ∙ a.nodes; bases = b.bases ∙ a.bases; shelf = b.shelf ∙ a.shelf; states = b.states ∙ a.states; sources = b.sources ∙ a.sources }
+
+module _ {x y : Walk} (k : Kept x y) {g : List Node} {path : List ℕ} where
+  pub stands_kept : {v u : List ℕ} {m : ℕ} {t : State} → Stands x.nodes.now x.bases.now x.shelf.now v u m g path t → Stands y.nodes.now y.bases.now y.shelf.now v u m g path t
+  stands_kept q = rw (k.nodes, k.bases, k.shelf) q
+
+  pub pushing_kept : {v u : List ℕ} {m p : ℕ} {t : State} → Pushing x.nodes.now x.bases.now v u m p g path t → Pushing y.nodes.now y.bases.now v u m p g path t
+  pushing_kept q = rw (k.nodes, k.bases) q
+
+  -- what comes of y comes of x
+  pub walks_kept : {v u : List ℕ} {o : Walked} {r : Checked ℕ} → Walks g v u (length y.bases.now) path o r → Walks g v u (length x.bases.now) path o r
+  walks_kept w = rw (← k.bases) w
+
+  pub holds_kept : {v u : List ℕ} {t : State} → Holds g v u (length y.bases.now) path t → Holds g v u (length x.bases.now) path t
+  holds_kept h = rw (← k.bases) h

@@ -33,6 +33,7 @@ pub mod Sizing
 pub mod Examining
 pub mod Roots
 pub mod Passing
+pub mod Parts
 pub mod Charting
 pub mod Joining
 pub mod Answering

@@ -85,21 +85,21 @@ alike_counts a b e = ap (λ (k : ℕ). same (take a.count a.kids) (take k b.kids
 
 -- ONE NODE LIKE ANOTHER ---------------------------------------------------------------------------
 
-module _ (s w : List ℕ) (n q : ℕ) (x : Node) where
-  pub own_fits : (node_at s q).count ≤ fields → {y : Node} → y ≡ merged_at s w n q → y.count ≤ fields
+module _ (s b v : List ℕ) (q : ℕ) (x : Node) where
+  pub own_fits : (node_at s q).count ≤ fields → {y : Node} → y ≡ merged_at s b v q → y.count ≤ fields
   unfolding merged_at renumber
   own_fits h e = rw e h
 
-  pub unlike_kind : (node_at s q).kind ≢ x.kind → false ≡ same_node x (merged_at s w n q)
+  pub unlike_kind : (node_at s q).kind ≢ x.kind → false ≡ same_node x (merged_at s b v q)
   unfolding same_node merged_at renumber
   unlike_kind h = rw (ne_eqb x.kind (node_at s q).kind (λ e. h (sym e))) refl
 
   module _ (kind : (node_at s q).kind ≡ x.kind) where
-    pub unlike_digest : holds s x.digest q ≡ false → false ≡ same_node x (merged_at s w n q)
+    pub unlike_digest : holds s x.digest q ≡ false → false ≡ same_node x (merged_at s b v q)
     unfolding same_node merged_at renumber holds
     unlike_digest e = rw (eq-eqb x.kind (node_at s q).kind (sym kind), e) refl
 
-    pub like_by_children : holds s x.digest q ≡ true → {r : Bool} → r ≡ same (children x) (children (merged_at s w n q)) → r ≡ same_node x (merged_at s w n q)
+    pub like_by_children : holds s x.digest q ≡ true → {r : Bool} → r ≡ same (children x) (children (merged_at s b v q)) → r ≡ same_node x (merged_at s b v q)
     unfolding same_node merged_at renumber holds
     like_by_children e f = rw (eq-eqb x.kind (node_at s q).kind (sym kind), e) f
 

@@ -13,37 +13,30 @@ use Rattle.forest.specs.Graph.{at}
 use Rattle.forest.specs.Lists.{lowest}
 use Rattle.forest.specs.Walk.{State, id_of, ended, push, finish}
 use Rattle.claims.specs.Searches.{lowest_lt}
-use Rattle.merger.specs.Sections.{sources_at, bases_at}
-use Rattle.merger.specs.Walking.{Roomy, merged_at, Readable, Pushing, Came}
+use Rattle.merger.specs.Walking.{merged_at, Readable, Holds, Pushing}
 use Rattle.merger.proofs.Fine.{fine_fewer}
 use Rattle.merger.proofs.Finishing.{holds_ended, holds_new}
 use Rattle.merger.proofs.Reading.{readable, source_readable, merged_is, merged_list}
 
-module _ {s w : List ℕ} {n m p : ℕ} {g : List Node} {path : List ℕ} {t : State} (q : Pushing s w n m p g path t) where
-  pub roomy : Roomy s w n
-  roomy = record { counted = q.mapped.counted; few = q.mapped.few; room = q.mapped.room }
-
-  pub own_readable : Readable s w n p
+module _ {s b v u : List ℕ} {m p : ℕ} {g : List Node} {path : List ℕ} {t : State} (q : Pushing s b v u m p g path t) where
+  pub own_readable : Readable s b v p
   own_readable = readable q.mapped q.fine q.holds p q.below q.ended
 
-  pub sources_readable : (k : ℕ) → k < m → Readable s w n (get_or w (sources_at n + k) 0)
+  pub sources_readable : (k : ℕ) → k < m → Readable s b v (get_or u k 0)
   sources_readable k h = source_readable q.mapped q.fine q.holds k (rw (← q.counted) h)
 
   -- there is room for one more
-  pub room_left : m < n
+  pub room_left : m < length b
   room_left = rw q.counted (fine_fewer q.fine q.below)
 
-  wide : bases_at n ≤ length w
-  wide = let z = q.mapped.room in omega arith
-
-  module _ (x : Node) (is : x ≡ merged_at s w n p) where
+  module _ (x : Node) (is : x ≡ merged_at s b v p) where
     pub own_count : x.count ≤ fields
     unfolding merged_at renumber
     own_count = rw is (q.mapped.fit p q.below)
 
     -- the search among the merged nodes
-    module _ (r : Option ℕ) (f : r ≡ (lowest (same_node x) (map (λ k. merged_at s w n (get_or w (sources_at n + k) 0)) (run 0 m)))) where
-      found_is : lowest (same_node x) (map (λ k. merged_at s w n (get_or w (sources_at n + k) 0)) (run 0 m)) ≡ lowest (same_node (renumber (id_of t) (at g p))) t.merged
+    module _ (r : Option ℕ) (f : r ≡ (lowest (same_node x) (map (λ k. merged_at s b v (get_or u k 0)) (run 0 m)))) where
+      found_is : lowest (same_node x) (map (λ k. merged_at s b v (get_or u k 0)) (run 0 m)) ≡ lowest (same_node (renumber (id_of t) (at g p))) t.merged
       found_is = rw (is, merged_is q.mapped q.fine q.holds p q.below q.ended, q.counted, merged_list q.mapped q.fine q.holds) refl
 
       -- an equal earlier node has the id k
@@ -54,14 +47,14 @@ module _ {s w : List ℕ} {n m p : ℕ} {g : List Node} {path : List ℕ} {t : S
         pub found_low : k < m
         found_low = rw q.counted (lowest_lt _ t.merged k found)
 
-        pub pushed_equal : (m ≡ length (finish g p t).merged) × Came g w (set w p (k + 2)) n path (finish g p t)
+        pub pushed_equal : (m ≡ length (finish g p t).merged) × Holds g (set v p (k + 2)) u (length b) path (finish g p t)
         unfolding finish push ended
-        pushed_equal = rw (q.kept, finish, found, push) (q.counted, holds_ended q.fine q.holds q.below wide k (k + 2) refl)
+        pushed_equal = rw (q.kept, finish, found, push) (q.counted, holds_ended q.fine q.holds q.below k (k + 2) refl)
 
       -- there is none
-      pub pushed_new : r ≡ None → (m + 1 ≡ length (finish g p t).merged) × Came g w (set (set w (sources_at n + m) p) p (m + 2)) n path (finish g p t)
+      pub pushed_new : r ≡ None → (m + 1 ≡ length (finish g p t).merged) × Holds g (set v p (m + 2)) (set u m p) (length b) path (finish g p t)
       unfolding finish push ended
       pushed_new e =
           let z : lowest (same_node (renumber (id_of t) (at g p))) t.merged ≡ None = sym found_is ∙ (sym f ∙ e) in
           let l = length-append t.merged (renumber (id_of t) (at g p) ∷ []) in
-          rw (q.kept, finish, z, push, q.counted) (omega arith, holds_new q.fine q.holds q.below wide (renumber (id_of t) (at g p)) refl q.ended)
+          rw (q.kept, finish, z, push, q.counted) (omega arith, holds_new q.fine q.holds q.below (renumber (id_of t) (at g p)) refl q.ended)

@@ -1,4 +1,4 @@
--- Merged nodes as the work room has them: records with the ids that the room has for their children.
+-- Merged nodes as the walk has them: records with the ids that its states have for their children.
 -- Assumes nothing.
 use Prim.Native.Nat.{ℕ, suc, ◌+◌, ◌<◌}
 use mathlib.Core.Path.{◌≡◌, refl, sym, ◌∙◌, ap}
@@ -14,7 +14,6 @@ use Rattle.forest.specs.Graph.{no_node, at, next}
 use Rattle.forest.specs.Walk.{State, id_of}
 use Rattle.claims.specs.Sound.{Finished}
 use Rattle.claims.specs.Walks.{id_in_in}
-use Rattle.merger.specs.Sections.{sources_at, bases_at}
 use Rattle.merger.specs.Walking.{Mapped, merged_at, Readable, Source, Fine, Holds}
 use Rattle.merger.proofs.Holding.{word_of, child_next}
 use Rattle.dense_order.proofs.Delivering.{renumber_agree}
@@ -29,22 +28,28 @@ listed_by (x ∷ l) f a h =
     let e : f a ≡ x = rw z at (h 0 (omega arith)) in
     rw (e, listed_by l f (suc a) (λ k i. let y : a + suc k ≡ suc a + k = omega arith in rw y at (h (suc k) (omega arith))))
 
-module _ {s w : List ℕ} {n : ℕ} {g : List Node} {path : List ℕ} {t : State} (m : Mapped s w n g) (f : Fine g n path t) (h : Holds g w n path t) where
+module _ {s b v u : List ℕ} {g : List Node} {path : List ℕ} {t : State} (m : Mapped s b g) (f : Fine g (length b) path t) (h : Holds g v u (length b) path t) where
   -- a position whose children are finished
-  module _ (x : ℕ) (low : x < n) (done : (c : ℕ) → Memᴰ c (next g x) → Finished t c) where
-    child_done : (c : ℕ) → Memᴰ c (children (node_at s x)) → Finished t (get_or w (bases_at n + x) 0 + c)
+  module _ (x : ℕ) (low : x < length b) (done : (c : ℕ) → Memᴰ c (next g x) → Finished t c) where
+    child_done : (c : ℕ) → Memᴰ c (children (node_at s x)) → Finished t (get_or b x 0 + c)
     child_done c k =
-        let b : ℕ = get_or w (bases_at n + x) 0 in
-        let e : children (at g x) ≡ map (λ c. b + c) (children (node_at s x)) = ap children (m.nodes x low) ∙ children_renumber _ (node_at s x) in
-        done (b + c) (child_next g x (b + c) (rw e (Memᴰ.map (λ (c : ℕ). b + c) k)))
+        let o : ℕ = get_or b x 0 in
+        let e : children (at g x) ≡ map (λ c. o + c) (children (node_at s x)) = ap children (m.nodes x low) ∙ children_renumber _ (node_at s x) in
+        done (o + c) (child_next g x (o + c) (rw e (Memᴰ.map (λ (c : ℕ). o + c) k)))
 
-    child_word : (c : ℕ) → Memᴰ c (children (node_at s x)) → get_or w (get_or w (bases_at n + x) 0 + c) 0 ≡ id_of t (get_or w (bases_at n + x) 0 + c) + 2
+    child_word : (c : ℕ) → Memᴰ c (children (node_at s x)) → get_or v (get_or b x 0 + c) 0 ≡ id_of t (get_or b x 0 + c) + 2
     child_word c k = let d = child_done c k in word_of h _ (f.within _ d) d
 
-    pub readable : Readable s w n x
-    readable = record { below = low; fit = m.fit x low; ended = λ c k. (f.within _ (child_done c k), let z = child_word c k in omega arith) }
+    pub readable : Readable s b v x
+    readable = record {
+      below = low;
+      within = let z = m.counted in omega arith;
+      few = m.few;
+      fit = m.fit x low;
+      ended = λ c k. (let y = f.within _ (child_done c k) in let z = h.long in omega arith, let z = child_word c k in omega arith);
+    }
 
-    pub merged_is : merged_at s w n x ≡ renumber (id_of t) (at g x)
+    pub merged_is : merged_at s b v x ≡ renumber (id_of t) (at g x)
     unfolding merged_at
     merged_is = renumber_agree _ _ (node_at s x) (λ c k. let z = child_word c k in omega arith) ∙ (sym (renumber_twice (id_of t) _ (node_at s x)) ∙ ap (renumber (id_of t)) (sym (m.nodes x low)))
 
@@ -52,13 +57,13 @@ module _ {s w : List ℕ} {n : ℕ} {g : List Node} {path : List ℕ} {t : State
   source_done : {q k : ℕ} → Source g t q k → Finished t q
   source_done {q} {k} o = id_in_in t.done q k o.own
 
-  pub source_below : {q k : ℕ} → Source g t q k → q < n
+  pub source_below : {q k : ℕ} → Source g t q k → q < length b
   source_below o = f.within _ (source_done o)
 
-  pub source_readable : (k : ℕ) → k < length t.merged → Readable s w n (get_or w (sources_at n + k) 0)
+  pub source_readable : (k : ℕ) → k < length t.merged → Readable s b v (get_or u k 0)
   source_readable k l = let o = h.sources k l in readable _ (source_below o) (λ c j. f.closed _ c (source_done o) j)
 
   -- and the merged nodes are read off the sources
-  pub merged_list : map (λ k. merged_at s w n (get_or w (sources_at n + k) 0)) (run 0 (length t.merged)) ≡ t.merged
+  pub merged_list : map (λ k. merged_at s b v (get_or u k 0)) (run 0 (length t.merged)) ≡ t.merged
   unfolding at
   merged_list = listed_by t.merged _ 0 (λ k l. let z : 0 + k ≡ k = omega arith in let o = h.sources k l in rw z (merged_is _ (source_below o) (λ c j. f.closed _ c (source_done o) j) ∙ sym o.node))

@@ -12,7 +12,7 @@ use Rattle.sorting.specs.Digests.{less}
 use Rattle.sorting.specs.Promises.{Listed}
 use Rattle.merger.specs.Sections.{order_at}
 use Rattle.merger.specs.Table.{starts}
-use Rattle.merger.specs.Walking.{Roomy, Readable}
+use Rattle.merger.specs.Walking.{Roomy}
 
 -- the sources of merged nodes by id, room for as many in their order, and room to sort them
 pub record Sourced (s l o e : List ℕ) : Type 0 where
@@ -75,12 +75,6 @@ pub record Mentions (t rs w b o : List ℕ) (r : ℕ) : Type 0 where
   pub count : r ≡ length (mentioned w (starts t rs))
   pub few : r ≤ length b
   pub put : take r o ≡ mentioned w (starts t rs)
-
--- the m sources in the order can be read
-pub record Writable (s w : List ℕ) (n m : ℕ) : Type 0 where
-  pub roomy : Roomy s w n
-  pub some : m ≤ n
-  pub readable : (j : ℕ) → j < m → Readable s w n (get_or w (order_at n + j) 0)
 
 -- what the id list says for a position's word
 unfoldable pub shown_as : ℕ → ℕ

@@ -12,7 +12,7 @@ use Rattle.forest.specs.Walk.{State, id_in}
 use Rattle.claims.specs.Sound.{Finished}
 use Rattle.room.specs.Sections.{span}
 use Rattle.merger.specs.Sections.{order_at, starts_at}
-use Rattle.merger.specs.Walking.{Mapped, Fine, Source, Ended}
+use Rattle.merger.specs.Walking.{MappedIn, Fine, Source, Ended}
 
 -- the word of a position once its id is carried through the order o: 2 more than its new id, or 0
 unfoldable pub carried_word : List ℕ → Option ℕ → ℕ
@@ -28,7 +28,7 @@ pub record Over (s w : List ℕ) (n m : ℕ) (ps : List ℕ) : Type 0 where
 
 -- the sources of the m merged nodes stand in the order, every id is carried through it, and the count roots are listed
 pub record Settled (s w : List ℕ) (n m count : ℕ) (g : List Node) (ps : List ℕ) (t : State) : Type 0 where
-  pub mapped : Mapped s w n g
+  pub mapped : MappedIn s w n g
   pub fine : Fine g n [] t
   pub nodes : m ≡ length (order t.merged)
   pub few : m ≤ n

@@ -7,6 +7,7 @@ ghost use Rattle.forest.specs.Merge.{merge as merge_of};
 ghost use Rattle.merger.specs.Steps.{Sized, Past, Ends, Joins};
 
 use forest::Reply;
+use multi_forest_node_iterator::{sort_holders, walk_roots};
 use table::Table;
 
 mod checks;
@@ -34,8 +35,6 @@ const SOURCES: usize = 1;
 
 const BASES: usize = 2;
 
-const HOLDERS: usize = 3;
-
 const SPARE: usize = 4;
 
 const ORDER: usize = 5;
@@ -57,8 +56,12 @@ fn walked(
 {
     room::clear(work);
     table.write_bases(work, n);
-    let holders = multi_forest_node_iterator::sort_holders(nodes, work, n);
-    multi_forest_node_iterator::walk_roots(table, nodes, roots, work, n, holders, limit)
+    let (states, rest) = work.split_at_mut(n);
+    let (sources, rest) = rest.split_at_mut(n);
+    let (bases, rest) = rest.split_at_mut(n);
+    let (holders, spare) = rest.split_at_mut(n);
+    let count = sort_holders(nodes, holders, spare);
+    walk_roots(table, nodes, roots, bases, &holders[..count], states, sources, limit)
 }
 
 // Merges in the room and says how many nodes and roots the result has, unless a record is bad, a root or a child past the end, the walk stops, or the outputs are short.

@@ -1,31 +1,39 @@
 // Step 3: a finished node becomes an equal earlier one, or is appended.
-ghost use Rattle.std.specs.Prelude.{◌≡◌, List, map, ℕ, ◌+◌, ◌<◌, ◌≤◌, length, get_or};
+ghost use Rattle.std.specs.Prelude.{◌≡◌, List, map, ℕ, ◌<◌, ◌≤◌, length, get_or};
 ghost use Rattle.record.specs.Lists.{same, run};
 ghost use Rattle.record.specs.Node.{fields, children, same_node};
 ghost use Rattle.record.specs.declared.Node.{Node};
 ghost use Rattle.forest.specs.Lists.{lowest};
 ghost use Rattle.forest.specs.Walk.{State, finish};
-ghost use Rattle.merger.specs.Sections.{sources_at};
-ghost use Rattle.merger.specs.Walking.{Roomy, Readable, merged_at, Pushing, Pushable, Came};
+ghost use Rattle.merger.specs.Walking.{Readable, merged_at, PushingAt, Pushable, Kept, Came};
 
-use crate::{BASES, SOURCES};
 use record::{FIELDS, Node};
 
-// The node at position p with the ids of its children, which are finished.
-pub(crate) fn merged_node(nodes: &[u8], work: &[u32], n: usize, p: usize) -> Node
-    requires roomy { Roomy nodes.now work.now n }
-    requires readable { Readable nodes.now work.now n p }
-    ensures { result ≡ merged_at nodes.now work.now n p }
+// What the walk goes over: the records, the first position of each one's forest, and the non-externals by digest; and what it writes: the
+// state of each position (0 unseen, 1 open, else 2 more than its new id), and the position that each merged id comes from.
+#[derive(Drop)]
+pub(crate) struct Walk<'a> {
+    pub(crate) nodes: &'a [u8],
+    pub(crate) bases: &'a [u32],
+    pub(crate) shelf: &'a [u32],
+    pub(crate) states: &'a mut [u32],
+    pub(crate) sources: &'a mut [u32],
+}
+
+// The node at position p with the ids that the states have for its children, which are finished.
+pub(crate) fn merged_node(nodes: &[u8], bases: &[u32], states: &[u32], p: usize) -> Node
+    requires { Readable nodes.now bases.now states.now p }
+    ensures { result ≡ merged_at nodes.now bases.now states.now p }
 {
     let node = record::node_at(nodes, p);
-    let base = work[BASES * n + p] as usize;
+    let base = bases[p] as usize;
     let count = node.count as usize;
     let mut kids = node.kids;
     let digest = node.digest;
     // Over all fields: a loop of fixed length keeps them in registers.
     for i in 0..FIELDS {
         if i < count {
-            kids[i] = work[base + kids[i] as usize] - 2;
+            kids[i] = states[base + kids[i] as usize] - 2;
         }
     }
     Node {
@@ -56,50 +64,59 @@ fn same_children(a: Node, b: Node) -> bool
     true
 }
 
-// Whether the merged node that comes from position q is like this one.
-fn is_like(nodes: &[u8], work: &[u32], n: usize, node: Node, q: usize) -> bool
-    requires roomy { Roomy nodes.now work.now n }
-    requires readable { Readable nodes.now work.now n q }
-    requires count_le_fields { node.count ≤ fields }
-    ensures { result ≡ same_node node (merged_at nodes.now work.now n q) }
-{
-    if record::kind_at(nodes, q) != node.kind {
-        return false;
+impl Walk<'_> {
+    // The node at position p with the ids of its children, which are finished.
+    fn merged(&self, p: usize) -> Node
+        requires { Readable self.now.nodes.now self.now.bases.now self.now.states.now p }
+        ensures { result ≡ merged_at self.now.nodes.now self.now.bases.now self.now.states.now p }
+    {
+        merged_node(self.nodes, self.bases, self.states, p)
     }
-    let digest = node.digest;
-    if !sorting::has_digest(nodes, digest, q as u32) {
-        return false;
-    }
-    same_children(node, merged_node(nodes, work, n, q))
-}
 
-// The lowest merged id whose node is like this one.
-fn find_equal(nodes: &[u8], work: &[u32], n: usize, node: Node, count: usize) -> Option<usize>
-    requires roomy { Roomy nodes.now work.now n }
-    requires count_le_n { count ≤ n }
-    requires by_index { (k : ℕ) → k < count → Readable nodes.now work.now n (get_or work.now (sources_at n + k) 0) }
-    requires count_le_fields { node.count ≤ fields }
-    ensures { result ≡ lowest (same_node node) (map (λ k. merged_at nodes.now work.now n (get_or work.now (sources_at n + k) 0)) (run 0 count)) }
-{
-    for k in 0..count {
-        if is_like(nodes, work, n, node, work[SOURCES * n + k] as usize) {
-            return Some(k);
+    // Whether the merged node that comes from position q is like this one.
+    fn is_like(&self, node: Node, q: usize) -> bool
+        requires readable { Readable self.now.nodes.now self.now.bases.now self.now.states.now q }
+        requires count_le_fields { node.count ≤ fields }
+        ensures { result ≡ same_node node (merged_at self.now.nodes.now self.now.bases.now self.now.states.now q) }
+    {
+        if record::kind_at(self.nodes, q) != node.kind {
+            return false;
         }
+        let digest = node.digest;
+        if !sorting::has_digest(self.nodes, digest, q as u32) {
+            return false;
+        }
+        same_children(node, self.merged(q))
     }
-    None
-}
 
-// Step 3: finishes position p with the id of an equal earlier node, else appends it; says how many nodes are merged.
-pub(crate) fn push(nodes: &[u8], work: &mut [u32], n: usize, p: usize, count: usize) -> usize
-    requires { Pushable nodes.now work.old n count p }
-    ensures { (g : List Node) (path : List ℕ) (t : State) → Pushing nodes.now work.old n count p g path t → (result ≡ length (finish g p t).merged) × Came g work.old work.new n path (finish g p t) }
-{
-    let node = merged_node(nodes, work, n, p);
-    if let Some(k) = find_equal(nodes, work, n, node, count) {
-        work[p] = (k + 2) as u32;
-        return count;
+    // The lowest merged id whose node is like this one.
+    fn find_equal(&self, node: Node, count: usize) -> Option<usize>
+        requires by_index { (k : ℕ) → k < count → Readable self.now.nodes.now self.now.bases.now self.now.states.now (get_or self.now.sources.now k 0) }
+        requires count_le_len { count ≤ length self.now.sources.now }
+        requires count_le_fields { node.count ≤ fields }
+        ensures { result ≡ lowest (same_node node) (map (λ k. merged_at self.now.nodes.now self.now.bases.now self.now.states.now (get_or self.now.sources.now k 0)) (run 0 count)) }
+    {
+        for k in 0..count {
+            if self.is_like(node, self.sources[k] as usize) {
+                return Some(k);
+            }
+        }
+        None
     }
-    work[SOURCES * n + count] = p as u32;
-    work[p] = (count + 2) as u32;
-    count + 1
+
+    // Step 3: finishes position p with the id of an equal earlier node, else appends it; says how many nodes are merged.
+    pub(crate) fn push(&mut self, p: usize, count: usize) -> usize
+        requires { Pushable self.old count p }
+        ensures kept { Kept self.old self.new }
+        ensures came { (g : List Node) (path : List ℕ) (t : State) → PushingAt self.old count p g path t → (result ≡ length (finish g p t).merged) × Came g self.old self.new path (finish g p t) }
+    {
+        let node = self.merged(p);
+        if let Some(k) = self.find_equal(node, count) {
+            self.states[p] = (k + 2) as u32;
+            return count;
+        }
+        self.sources[count] = p as u32;
+        self.states[p] = (count + 2) as u32;
+        count + 1
+    }
 }

@@ -1,163 +1,140 @@
 // Discovery: the walk over all forests, which merges each node as it finishes.
-ghost use Rattle.std.specs.Prelude.{◌≡◌, ℕ, ◌<◌};
+ghost use Rattle.std.specs.Prelude.{◌≡◌, ℕ, ◌<◌, ◌≤◌, length};
 ghost use mathlib.Core.List.{List, [], ◌∷◌, Memᴰ};
 ghost use Rattle.record.specs.Node.{nodes_of};
 ghost use Rattle.record.specs.declared.Node.{Node};
 ghost use Rattle.forest.specs.Graph.{replacement as replacement_of};
 ghost use Rattle.forest.specs.Walk.{State, visit, walk};
 ghost use Rattle.merger.specs.Table.{starts};
-ghost use Rattle.merger.specs.Walking.{Roomy, Lists, Shelved, Held, Charted, Somewhere, Inside, Stands, under, Walks, Begun};
+ghost use Rattle.merger.specs.Walking.{Ample, Lists, Shelved, Held, Charted, StandsAt, Somewhere, Inside, under, Kept, Walks, WalksTo, Begun};
 
+use crate::merging::Walk;
 use crate::table::{Cursor, Table};
-use crate::{BASES, EXTERNAL, HOLDERS, SPARE, merging};
 use forest::Reply;
-use record::{Node, WORDS};
+use record::{Class, WORDS};
 
 // Lists the non-externals; says how many they are.
-fn list_holders(nodes: &[u8], work: &mut [u32], n: usize) -> usize
-    requires { Roomy nodes.now work.old n }
-    ensures { Lists nodes.now work.old work.new n result }
+fn list_holders(nodes: &[u8], list: &mut [u32]) -> usize
+    requires { Ample nodes.now list.old }
+    ensures { Lists nodes.now list.old list.new result }
 {
+    let n = list.len();
     let mut count = 0;
     for p in 0..n {
-        if record::kind_at(nodes, p) == EXTERNAL {
+        if record::class_of(record::kind_at(nodes, p)) == Class::External {
             continue;
         }
-        work[HOLDERS * n + count] = p as u32;
+        list[count] = p as u32;
         count += 1;
     }
     count
 }
 
 // Lists the non-externals by digest; says how many they are.
-pub(crate) fn sort_holders(nodes: &[u8], work: &mut [u32], n: usize) -> usize
-    requires { Roomy nodes.now work.old n }
-    ensures { Shelved nodes.now work.old work.new n result }
+pub(crate) fn sort_holders(nodes: &[u8], list: &mut [u32], spare: &mut [u32]) -> usize
+    requires ample { Ample nodes.now list.old }
+    requires spare_len { length list.old ≤ length spare.old }
+    ensures { Shelved nodes.now list.old list.new spare.old spare.new result }
 {
-    let count = list_holders(nodes, work, n);
-    let (front, spare) = work.split_at_mut(SPARE * n);
-    let holders = HOLDERS * n;
-    sorting::sort_by_digest(
-        nodes,
-        &mut front[holders..holders + count],
-        &mut spare[..count],
-    );
+    let count = list_holders(nodes, list);
+    sorting::sort_by_digest(nodes, &mut list[..count], &mut spare[..count]);
     count
 }
 
-// Step 1: the highest position with a non-external of this digest.
-fn replacement(
-    nodes: &[u8],
-    work: &[u32],
-    n: usize,
-    holders: usize,
-    digest: [u64; WORDS],
-) -> Option<usize>
-    requires { Held nodes.now work.now n holders }
-    ensures { result ≡ replacement_of (nodes_of nodes.now) digest }
-{
-    let from = HOLDERS * n;
-    sorting::find(nodes, &work[from..from + holders], digest)
+impl Walk<'_> {
+    // Step 1: the highest position with a non-external of this digest.
+    fn replacement(&self, digest: [u64; WORDS]) -> Option<usize>
+        requires { Held self.now.nodes.now self.now.shelf.now }
+        ensures { result ≡ replacement_of (nodes_of self.now.nodes.now) digest }
+    {
+        sorting::find(self.nodes, self.shelf, digest)
+    }
+
+    // Step 2: takes position p. A finished node is passed over, an open one is met again, any other is opened.
+    #[cycle(open_node_walk_below)]
+    fn open_node(&mut self, p: usize, left: u32, count: usize) -> Result<usize, Reply>
+        requires somewhere { Somewhere self.old count }
+        requires p_in_bounds { p < length self.old.bases.now }
+        ensures kept { Kept self.old self.new }
+        ensures walks { (g : List Node) (path : List ℕ) (t : State) → StandsAt self.old count g path t → WalksTo g self.old self.new path (visit g left path p t) result }
+    {
+        let state = self.states[p];
+        if 1 < state {
+            return Ok(count);
+        }
+        if state == 1 {
+            return Err(Reply::Cycle(p as u64));
+        }
+        if left == 0 {
+            return Err(Reply::TooDeep(p as u64));
+        }
+        self.states[p] = 1;
+        self.walk_below(p, left - 1, count)
+    }
+
+    // Takes what hangs below the open position p, and then finishes it.
+    #[cycle(open_node_walk_below)]
+    fn walk_below(&mut self, p: usize, left: u32, count: usize) -> Result<usize, Reply>
+        requires inside { Inside self.old count p }
+        requires p_in_bounds { p < length self.old.bases.now }
+        ensures kept { Kept self.old self.new }
+        ensures walks { (g : List Node) (path : List ℕ) (t : State) → StandsAt self.old count g (p ∷ path) t → ¬ Memᴰ p path → WalksTo g self.old self.new path (under g left path p t) result }
+    {
+        let node = record::node_at(self.nodes, p);
+        if record::class_of(node.kind) == Class::External {
+            let Some(q) = self.replacement(node.digest) else {
+                return Ok(self.push(p, count));
+            };
+            let merged = self.open_node(q, left, count)?;
+            self.states[p] = self.states[q];
+            return Ok(merged);
+        }
+        let base = self.bases[p] as usize;
+        let kids = node.kids;
+        let children = node.count as usize;
+        let mut merged = count;
+        for i in 0..children {
+            merged = self.open_node(base + kids[i] as usize, left, merged)?;
+        }
+        Ok(self.push(p, merged))
+    }
+
+    // Takes the roots of all forests in their order.
+    fn take_roots(&mut self, table: &Table, roots: &[u32], limit: u32) -> Result<usize, Reply>
+        requires { Begun table.now self.old.nodes.now roots.now self.old.bases.now self.old.shelf.now self.old.states.now self.old.sources.now }
+        ensures kept { Kept self.old self.new }
+        ensures walks { (g : List Node) → Charted self.old.nodes.now self.old.bases.now self.old.shelf.now g → WalksTo g self.old self.new [] (walk g limit (starts table.now roots.now)) result }
+    {
+        let mut at = Cursor::start();
+        let mut merged = 0;
+        for (k, root) in roots.iter().enumerate() {
+            at = table.at_root(at, k);
+            merged = self.open_node(at.base + *root as usize, limit, merged)?;
+        }
+        Ok(merged)
+    }
 }
 
-// Step 2: takes position p. A finished node is passed over, an open one is met again, any other is opened.
-#[cycle(open_node_walk_below)]
-fn open_node(
-    nodes: &[u8],
-    work: &mut [u32],
-    n: usize,
-    holders: usize,
-    p: usize,
-    left: u32,
-    count: usize,
-) -> Result<usize, Reply>
-    requires somewhere { Somewhere nodes.now work.old n holders count }
-    requires p_lt_n { p < n }
-    ensures { (g : List Node) (path : List ℕ) (t : State) → Stands nodes.now work.old n holders count g path t → Walks g work.old work.new n path (visit g left path p t) result }
-{
-    let state = work[p];
-    if 1 < state {
-        return Ok(count);
-    }
-    if state == 1 {
-        return Err(Reply::Cycle(p as u64));
-    }
-    if left == 0 {
-        return Err(Reply::TooDeep(p as u64));
-    }
-    work[p] = 1;
-    walk_below(nodes, work, n, holders, p, left - 1, count)
-}
-
-// Takes what hangs below the open position p, and then finishes it.
-#[cycle(open_node_walk_below)]
-fn walk_below(
-    nodes: &[u8],
-    work: &mut [u32],
-    n: usize,
-    holders: usize,
-    p: usize,
-    left: u32,
-    count: usize,
-) -> Result<usize, Reply>
-    requires inside { Inside nodes.now work.old n holders count p }
-    requires p_lt_n { p < n }
-    ensures { (g : List Node) (path : List ℕ) (t : State) → Stands nodes.now work.old n holders count g (p ∷ path) t → ¬ Memᴰ p path → Walks g work.old work.new n path (under g left path p t) result }
-{
-    let node = record::node_at(nodes, p);
-    if node.kind == EXTERNAL {
-        let digest = node.digest;
-        let Some(q) = replacement(nodes, work, n, holders, digest) else {
-            return Ok(merging::push(nodes, work, n, p, count));
-        };
-        let merged = open_node(nodes, work, n, holders, q, left, count)?;
-        work[p] = work[q];
-        return Ok(merged);
-    }
-    let base = work[BASES * n + p] as usize;
-    let kids = node.kids;
-    let children = node.count as usize;
-    let mut merged = count;
-    for i in 0..children {
-        merged = open_node(
-            nodes,
-            work,
-            n,
-            holders,
-            base + kids[i] as usize,
-            left,
-            merged,
-        )?;
-    }
-    Ok(merging::push(nodes, work, n, p, merged))
-}
-
-// Takes the roots of all forests in their order.
+// Walks from the roots of all forests; says how many nodes are merged.
 pub(crate) fn walk_roots(
     table: &Table,
     nodes: &[u8],
     roots: &[u32],
-    work: &mut [u32],
-    n: usize,
-    holders: usize,
+    bases: &[u32],
+    shelf: &[u32],
+    states: &mut [u32],
+    sources: &mut [u32],
     limit: u32,
 ) -> Result<usize, Reply>
-    requires begun { Begun table.now nodes.now roots.now work.old n holders }
-    ensures { (g : List Node) → Charted nodes.now work.old n holders g → Walks g work.old work.new n [] (walk g limit (starts table.now roots.now)) result }
+    requires { Begun table.now nodes.now roots.now bases.now shelf.now states.old sources.old }
+    ensures { (g : List Node) → Charted nodes.now bases.now shelf.now g → Walks g states.new sources.new (length bases.now) [] (walk g limit (starts table.now roots.now)) result }
 {
-    let mut at = Cursor::start();
-    let mut merged = 0;
-    for (k, root) in roots.iter().enumerate() {
-        at = table.at_root(at, k);
-        merged = open_node(
-            nodes,
-            work,
-            n,
-            holders,
-            at.base + *root as usize,
-            limit,
-            merged,
-        )?;
-    }
-    Ok(merged)
+    let mut walk = Walk {
+        nodes,
+        bases,
+        shelf,
+        states,
+        sources,
+    };
+    walk.take_roots(table, roots, limit)
 }

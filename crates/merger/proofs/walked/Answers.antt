@@ -1,29 +1,70 @@
-use mathlib.Core.Path.{◌∙◌}
-use Rattle.merger.proofs.Charting.{summed, roomy, begun, ends}
+use mathlib.Core.Path.{refl, ◌∙◌}
+use native.Mathlib.Omega.{arith}
+use Rattle.merger.proofs.Charting.{summed, roomy, ample, spare_long, begun, ends}
+use Rattle.merger.proofs.Parts.{cut, parts_long}
 use Rattle.merger.proofs.walked.Goals as goal
 
-pub write_bases-requires : goal.write_bases-requires
-write_bases-requires c =
-    let x = c.clear in
-    let z = roomy c.requires.past c.requires.n_value {w₁ = x.new.work} x.auto.work in
-    record { n_value = (summed c.requires.past c.requires.n_value, z.few); n_in_bounds = z.room }
+pub write_bases-requires-clause-n_value : goal.write_bases-requires-clause-n_value
+write_bases-requires-clause-n_value c = (summed c.requires.past c.requires.n_value, (roomy c.requires.past c.requires.n_value c.clear.auto.work).few)
 
-pub sort_holders-holders-requires : goal.sort_holders-holders-requires
-sort_holders-holders-requires c = roomy c.requires.past c.requires.n_value (c.write_bases.auto.work ∙ c.clear.auto.work)
+pub write_bases-requires-clause-n_in_bounds : goal.write_bases-requires-clause-n_in_bounds
+write_bases-requires-clause-n_in_bounds c = (roomy c.requires.past c.requires.n_value c.clear.auto.work).room
+
+pub split_at_mut-states-requires : goal.split_at_mut-states-requires
+split_at_mut-states-requires c = let r = (roomy c.requires.past c.requires.n_value (c.write_bases.auto.work ∙ c.clear.auto.work)).room in omega arith
+
+pub split_at_mut-sources-requires : goal.split_at_mut-sources-requires
+split_at_mut-sources-requires c =
+    let r = (roomy c.requires.past c.requires.n_value (c.write_bases.auto.work ∙ c.clear.auto.work)).room in
+    omega (arith, c.split_at_mut-states.ensures.back_len)
+
+pub split_at_mut-bases-requires : goal.split_at_mut-bases-requires
+split_at_mut-bases-requires c =
+    let r = (roomy c.requires.past c.requires.n_value (c.write_bases.auto.work ∙ c.clear.auto.work)).room in
+    omega (arith, c.split_at_mut-states.ensures.back_len, c.split_at_mut-sources.ensures.back_len)
+
+pub split_at_mut-holders-requires : goal.split_at_mut-holders-requires
+split_at_mut-holders-requires c =
+    let r = (roomy c.requires.past c.requires.n_value (c.write_bases.auto.work ∙ c.clear.auto.work)).room in
+    omega (arith, c.split_at_mut-states.ensures.back_len, c.split_at_mut-sources.ensures.back_len, c.split_at_mut-bases.ensures.back_len)
+
+pub sort_holders-count-requires-clause-ample : goal.sort_holders-count-requires-clause-ample
+sort_holders-count-requires-clause-ample c =
+    let p = c.split_at_mut-states.ensures in
+    let q = c.split_at_mut-sources.ensures in
+    let s = c.split_at_mut-bases.ensures in
+    let t = c.split_at_mut-holders.ensures in
+    let a = cut p.value q.value s.value t.value p.front_len q.front_len s.front_len t.front_len in
+    ample c.requires.past c.requires.n_value c.clear.ensures c.write_bases.ensures a (c.write_bases.auto.work ∙ c.clear.auto.work)
+
+pub sort_holders-count-requires-clause-spare_len : goal.sort_holders-count-requires-clause-spare_len
+sort_holders-count-requires-clause-spare_len c =
+    let p = c.split_at_mut-states.ensures in
+    let q = c.split_at_mut-sources.ensures in
+    let s = c.split_at_mut-bases.ensures in
+    let t = c.split_at_mut-holders.ensures in
+    let a = cut p.value q.value s.value t.value p.front_len q.front_len s.front_len t.front_len in
+    spare_long c.requires.past c.requires.n_value c.clear.ensures c.write_bases.ensures a (c.write_bases.auto.work ∙ c.clear.auto.work)
 
 pub walk_roots-requires : goal.walk_roots-requires
 walk_roots-requires c =
-    let x = c.clear in
-    let y = c.write_bases in
-    let z = c.sort_holders-holders in
-    let l = z.auto.work ∙ (y.auto.work ∙ x.auto.work) in
-    record { begun = begun c.requires.past c.requires.n_value x.ensures y.ensures z.ensures l }
+    let p = c.split_at_mut-states.ensures in
+    let q = c.split_at_mut-sources.ensures in
+    let s = c.split_at_mut-bases.ensures in
+    let t = c.split_at_mut-holders.ensures in
+    let a = cut p.value q.value s.value t.value p.front_len q.front_len s.front_len t.front_len in
+    begun c.requires.past c.requires.n_value c.clear.ensures c.write_bases.ensures a (c.write_bases.auto.work ∙ c.clear.auto.work) c.sort_holders-count.ensures
 
 pub returns : goal.returns
 returns c =
-    let x = c.clear in
-    let y = c.write_bases in
-    let z = c.sort_holders-holders in
-    let l = z.auto.work ∙ (y.auto.work ∙ x.auto.work) in
+    let p = c.split_at_mut-states.ensures in
+    let q = c.split_at_mut-sources.ensures in
+    let s = c.split_at_mut-bases.ensures in
+    let t = c.split_at_mut-holders.ensures in
+    let a = cut p.value q.value s.value t.value p.front_len q.front_len s.front_len t.front_len in
+    let l = c.write_bases.auto.work ∙ c.clear.auto.work in
+    let k = c.sort_holders-count in
     let v = c.walk_roots in
-    ends c.requires.past c.requires.n_value x.ensures y.ensures z.ensures l v.auto.work v.ensures
+    let b = cut refl refl refl refl (v.auto.states ∙ p.front_len) (v.auto.sources ∙ q.front_len) s.front_len (k.auto.list ∙ t.front_len) in
+    let z = k.auto.spare in
+    ends c.requires.past c.requires.n_value c.clear.ensures c.write_bases.ensures a l k.ensures b (omega (arith, parts_long a, parts_long b, l)) v.ensures
