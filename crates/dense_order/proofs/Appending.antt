@@ -10,7 +10,7 @@ use native.Mathlib.Omega.{arith}
 use native.Mathlib.Decide.{ℕ_discrete}
 use lib.Dec.{eqb}
 use borrow.Author.Tests.{eqb-true, not-true, eq-eqb, ne_eqb}
-use lib.ListN.{length, take, get_or, set, length-set}
+use lib.ListN.{length, take, drop, get_or, set, length-set}
 use lib.Seq.{take_at, take_all, get_or-set_other}
 use Rattle.record.specs.Node.{nodes_of, is_internal}
 use Rattle.record.proofs.Basics.{both_true}
@@ -21,14 +21,14 @@ use Rattle.claims.specs.Distinct.{distinct_snoc}
 use Rattle.claims.specs.Searches.{not_in}
 use Rattle.room.specs.Sections.{span, Out}
 use Rattle.room.proofs.Spans.{span_length, span_same, span_set}
-use Rattle.ready.specs.Tree.{member, Tree, Changed}
-use Rattle.ready.proofs.Trees.{tree_outside}
+use Rattle.ready.specs.Tree.{member, Tree}
+use Rattle.dense_order.proofs.Rows.{ChangedAt, outside_at}
 use Rattle.dense_order.specs.Mentions.{left}
 use Rattle.dense_order.specs.State.{places_at, heads_at, counts_at, ready_at, links_at, Counts, Stands, Standing, Settles, Appends}
 use Rattle.dense_order.proofs.Linking.{has_snoc, ready_left}
 
 module _ {s w w₁ : List ℕ} {n filled p : ℕ} (a : Standing s w n filled filled) (h : p < n) (k : filled < n)
-    (r : ready (nodes_of s) (span w 0 filled) p ≡ true) (c : Changed false w w₁ (ready_at n) n p) (l : length w₁ ≡ length w) where
+    (r : ready (nodes_of s) (span w 0 filled) p ≡ true) (c : ChangedAt false w w₁ (ready_at n) n p) (l : length w₁ ≡ length w) where
   abbrev o : List ℕ
   o = span w 0 filled
 
@@ -64,8 +64,8 @@ module _ {s w w₁ : List ℕ} {n filled p : ℕ} (a : Standing s w n filled fil
   old : Stands s w n o o
   old = rw settled_all at a.stands
 
-  tree_now : Tree w₂ (ready_at n) n × ((j : ℕ) → j < n → member w₂ (ready_at n) n j ≡ member w₁ (ready_at n) n j)
-  tree_now = tree_outside w₁ (set w₁ filled p) (ready_at n) n (length-set w₁ filled p) (λ y u v. get_or-set_other w₁ filled y p 0 (λ e. omega arith)) c.tree
+  tree_now : Tree (drop (ready_at n) w₂) n × ((j : ℕ) → j < n → member (drop (ready_at n) w₂) n j ≡ member (drop (ready_at n) w₁) n j)
+  tree_now = outside_at w₁ (set w₁ filled p) (ready_at n) n (length-set w₁ filled p) (λ y u v. get_or-set_other w₁ filled y p 0 (λ e. omega arith)) c.tree
 
   counts_now : Counts (nodes_of s) w₂ n (o ++ p ∷ []) (λ j. left (nodes_of s) j o)
   counts_now = record {
@@ -74,7 +74,7 @@ module _ {s w w₁ : List ℕ} {n filled p : ℕ} (a : Standing s w n filled fil
     members = λ j q. joined j q (ℕ_discrete j p);
   }
     where
-      joined : (j : ℕ) → j < n → Dec (j ≡ p) → member w₂ (ready_at n) n j ≡ (is_internal (at (nodes_of s) j) && (not (has j (o ++ p ∷ [])) && eqb (left (nodes_of s) j o) 0))
+      joined : (j : ℕ) → j < n → Dec (j ≡ p) → member (drop (ready_at n) w₂) n j ≡ (is_internal (at (nodes_of s) j) && (not (has j (o ++ p ∷ [])) && eqb (left (nodes_of s) j o) 0))
       joined j q (yes e) = rw e (tree_now.1 p h ∙ (c.changed ∙ rw (has_snoc p p o, eq-eqb p p refl, or-true (has p o)) (sym (and-false (is_internal (at (nodes_of s) p))))))
       joined j q (no d) = tree_now.1 j q ∙ (c.others j q d ∙ (old.counts.members j q ∙ rw (has_snoc j p o, ne_eqb j p d, or-false (has j o))))
 
@@ -109,5 +109,5 @@ module _ {s w w₁ : List ℕ} {n filled p : ℕ} (a : Standing s w n filled fil
   }
 
 pub appends : {s w w₁ w₃ : List ℕ} {n filled p : ℕ} → Standing s w n filled filled → p < n → filled < n → ready (nodes_of s) (span w 0 filled) p ≡ true
-    → Changed false w w₁ (ready_at n) n p → length w₁ ≡ length w → Settles s (set w₁ filled p) w₃ n (filled + 1) (filled + 1) → Appends s w w₃ n filled p
+    → ChangedAt false w w₁ (ready_at n) n p → length w₁ ≡ length w → Settles s (set w₁ filled p) w₃ n (filled + 1) (filled + 1) → Appends s w w₃ n filled p
 appends a h k r c l t = record { standing = t.standing; order = t.order ∙ order_now a h k r c l }

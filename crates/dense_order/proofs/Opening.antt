@@ -9,7 +9,7 @@ use native.Mathlib.Omega.{arith}
 use native.Mathlib.Decide.{ℕ_discrete}
 use lib.Dec.{ltb, eqb}
 use borrow.Author.Tests.{ltb-true, ltb-false, eq-eqb, ne_eqb}
-use lib.ListN.{length, get_or, set, length-set}
+use lib.ListN.{length, drop, get_or, set, length-set}
 use lib.Seq.{get_or-set_same, get_or-set_other}
 use Rattle.record.specs.Node.{fields, node_at, nodes_of, is_internal, children}
 use Rattle.record.specs.declared.Node.{Node}
@@ -21,8 +21,8 @@ use Rattle.claims.specs.Releases.{begun_distinct, begun_in}
 use Rattle.claims.specs.Searches.{has_in}
 use Rattle.room.specs.Sections.{span, Out}
 use Rattle.room.proofs.Spans.{span_same}
-use Rattle.ready.specs.Tree.{member, Tree, Changed}
-use Rattle.ready.proofs.Trees.{empty_tree, tree_outside}
+use Rattle.ready.specs.Tree.{member, Tree}
+use Rattle.dense_order.proofs.Rows.{ChangedAt, outside_at, empty_at}
 use Rattle.dense_order.specs.Mentions.{prior, left}
 use Rattle.dense_order.specs.State.{Linked, places_at, heads_at, counts_at, ready_at, links_at, Counts, Stands, Enlisted, Behind, Links, Enlists, Fresh, Opened}
 use Rattle.dense_order.proofs.Enlisting.{node_is, count_is}
@@ -40,8 +40,8 @@ module _ {s w w₁ : List ℕ} {n p r : ℕ} (a : Enlisted s w n p) (h : p < n) 
   length_counted : length counted ≡ length w
   length_counted = length-set w₁ (counts_at n + p) r ∙ long
 
-  pub tree_counted : Tree counted (ready_at n) n × ((i : ℕ) → i < n → member counted (ready_at n) n i ≡ member w (ready_at n) n i)
-  tree_counted = tree_outside w counted (ready_at n) n length_counted (λ y u v. same_counted y (λ e. omega arith) (λ z. omega arith) (λ z. omega arith)) a.tree
+  pub tree_counted : Tree (drop (ready_at n) counted) n × ((i : ℕ) → i < n → member (drop (ready_at n) counted) n i ≡ member (drop (ready_at n) w) n i)
+  tree_counted = outside_at w counted (ready_at n) n length_counted (λ y u v. same_counted y (λ e. omega arith) (λ z. omega arith) (λ z. omega arith)) a.tree
 
   linked_counted : Linked (nodes_of s) counted n (fields * (p + 1))
   linked_counted = record {
@@ -75,12 +75,12 @@ module _ {s w w₁ : List ℕ} {n p r : ℕ} (a : Enlisted s w n p) (h : p < n) 
     rest = behind_now counted (λ y q. refl);
   }
     where
-      joined : (j : ℕ) → j < p + 1 → Dec (j ≡ p) → member counted (ready_at n) n j ≡ (is_internal (at (nodes_of s) j) && eqb (length (children (at (nodes_of s) j))) 0)
+      joined : (j : ℕ) → j < p + 1 → Dec (j ≡ p) → member (drop (ready_at n) counted) n j ≡ (is_internal (at (nodes_of s) j) && eqb (length (children (at (nodes_of s) j))) 0)
       joined j q (yes e) = rw e (tree_counted.1 p h ∙ (a.idle p (omega arith) h ∙ sym f))
       joined j q (no d) = tree_counted.1 j (omega arith) ∙ a.members j (omega arith)
 
   -- p is ready at once
-  pub enlists_ready : (w' : List ℕ) → (is_internal (at (nodes_of s) p) && eqb (length (children (at (nodes_of s) p))) 0) ≡ true → length w' ≡ length counted → Changed true counted w' (ready_at n) n p → Enlists s w w' n p
+  pub enlists_ready : (w' : List ℕ) → (is_internal (at (nodes_of s) p) && eqb (length (children (at (nodes_of s) p))) 0) ≡ true → length w' ≡ length counted → ChangedAt true counted w' (ready_at n) n p → Enlists s w w' n p
   enlists_ready w' f m c = record {
     enlisted = record {
       fair = a.fair;
@@ -97,7 +97,7 @@ module _ {s w w₁ : List ℕ} {n p r : ℕ} (a : Enlisted s w n p) (h : p < n) 
     rest = behind_now w' c.rest;
   }
     where
-      joined : (j : ℕ) → j < p + 1 → Dec (j ≡ p) → member w' (ready_at n) n j ≡ (is_internal (at (nodes_of s) j) && eqb (length (children (at (nodes_of s) j))) 0)
+      joined : (j : ℕ) → j < p + 1 → Dec (j ≡ p) → member (drop (ready_at n) w') n j ≡ (is_internal (at (nodes_of s) j) && eqb (length (children (at (nodes_of s) j))) 0)
       joined j q (yes e) = rw e (c.changed ∙ sym f)
       joined j q (no d) = c.others j (omega arith) d ∙ (tree_counted.1 j (omega arith) ∙ a.members j (omega arith))
 
@@ -125,7 +125,7 @@ pub enlisted_start : {s w : List ℕ} {n filled : ℕ} → Fresh s w n filled �
 unfolding prior
 enlisted_start {s} {w} {n} a =
     let r = a.room in
-    let (t, m) = empty_tree w (ready_at n) n (omega arith) (λ y u v. a.zeros y (omega arith) (omega arith)) in
+    let (t, m) = empty_at w (ready_at n) n (omega arith) (λ y u v. a.zeros y (omega arith) (omega arith)) in
     let z : fields * 0 ≡ 0 = omega arith in
     record {
       fair = a.fair;

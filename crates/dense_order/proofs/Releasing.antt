@@ -8,7 +8,7 @@ use mathlib.Core.List.{List, [], ◌∷◌, ◌++◌, Memᴰ, append-nil, append
 use mathlib.Core.Logic.{◌⊎◌, inl, inr}
 use Rattle.std.specs.Prelude.{Some, None}
 use native.Mathlib.Omega.{arith}
-use lib.ListN.{length, take}
+use lib.ListN.{length, drop, take}
 use lib.Seq.{take_all}
 use Rattle.record.specs.Lists.{run, all}
 use Rattle.record.specs.Node.{nodes_of, is_internal, children}
@@ -45,10 +45,10 @@ module _ {s w : List ℕ} {n begun filled : ℕ} (r : Releasing s w n begun fill
   settled_whole = take_all filled (span w 0 filled) (let z = r.standing.stands.room in let y = r.standing.some in omega (arith, span_length w 0 filled (omega arith)))
 
   -- the tree's members are the ready ids
-  members_ready : (p : ℕ) → p < n → member w (ready_at n) n p ≡ ready (nodes_of s) (span w 0 filled) p
+  members_ready : (p : ℕ) → p < n → member (drop (ready_at n) w) n p ≡ ready (nodes_of s) (span w 0 filled) p
   members_ready p h = (let z = r.standing.stands.counts.members p h in rw settled_whole at z) ∙ sym (ready_left (nodes_of s) (span w 0 filled) p)
 
-  pub lowest_ready : lowest (member w (ready_at n) n) (run 0 n) ≡ lowest (ready (nodes_of s) (span w 0 filled)) (ids (nodes_of s))
+  pub lowest_ready : lowest (member (drop (ready_at n) w) n) (run 0 n) ≡ lowest (ready (nodes_of s) (span w 0 filled)) (ids (nodes_of s))
   unfolding ids
   lowest_ready = let z = forest_counted s n r.standing.stands.fair in rw z (lowest_agree _ _ 0 n (λ x a b. members_ready x (omega arith)))
 
@@ -61,7 +61,7 @@ module _ {s w : List ℕ} {n begun filled : ℕ} (r : Releasing s w n begun fill
   ends : lowest (ready (nodes_of s) (span w 0 filled)) (ids (nodes_of s)) ≡ None → Released s w n filled
   ends e = record { standing = r.standing; whole = sym (r.whole ∙ rw (none_released (n - (filled - begun)) e) (append-nil (span w 0 filled))) }
 
-  pub releasing_none : lowest (member w (ready_at n) n) (run 0 n) ≡ None → Released s w n filled
+  pub releasing_none : lowest (member (drop (ready_at n) w) n) (run 0 n) ≡ None → Released s w n filled
   releasing_none e = ends (sym lowest_ready ∙ e)
 
   -- all ids are in the order: nothing is ready
@@ -85,7 +85,7 @@ module _ {s w : List ℕ} {n begun filled : ℕ} (r : Releasing s w n begun fill
       not_ready : (p : ℕ) → p < n → (is_internal (at (nodes_of s) p) && (not (has p (span w 0 filled)) && all (λ c. has c (span w 0 filled)) (children (at (nodes_of s) p)))) ≡ false
       not_ready p k = rw (there p k _ refl) (and-false (is_internal (at (nodes_of s) p)))
 
-  module _ {p : ℕ} (found : lowest (member w (ready_at n) n) (run 0 n) ≡ Some p) where
+  module _ {p : ℕ} (found : lowest (member (drop (ready_at n) w) n) (run 0 n) ≡ Some p) where
     pub found_below : p < n
     found_below = (lowest_ids _ n p found).1
 

@@ -1,6 +1,6 @@
 -- Canonicalize's work room: its sections, and what they hold while internals are released.
 -- Assumes nothing: these are definitions.
-use Rattle.std.specs.Prelude.{ℕ, ◌+◌, ◌*◌, ◌/◌, ◌<◌, ◌≤◌, ◌≡◌, true, false, not, ◌&&◌, ◌||◌, ◌≢◌, eqb, length, take, get_or}
+use Rattle.std.specs.Prelude.{ℕ, ◌+◌, ◌*◌, ◌/◌, ◌<◌, ◌≤◌, ◌≡◌, true, false, not, ◌&&◌, ◌||◌, ◌≢◌, eqb, length, take, drop, get_or}
 use mathlib.Core.List.{List, [], ◌∷◌, ◌++◌, Memᴰ}
 use Rattle.record.specs.Node.{fields, size, node_at, nodes_of, is_internal, children}
 use Rattle.record.specs.declared.Node.{Node}
@@ -48,8 +48,8 @@ pub record Linked (g : List Node) (w : List ℕ) (n k : ℕ) : Type 0 where
 -- f says how much each id still waits for; those of internals not in o that wait for nothing are ready
 pub record Counts (g : List Node) (w : List ℕ) (n : ℕ) (o : List ℕ) (f : ℕ → ℕ) : Type 0 where
   pub counts : (p : ℕ) → p < n → get_or w (counts_at n + p) 0 ≡ f p
-  pub tree : Tree w (ready_at n) n
-  pub members : (p : ℕ) → p < n → member w (ready_at n) n p ≡ (is_internal (at g p) && (not (has p o) && eqb (f p) 0))
+  pub tree : Tree (drop (ready_at n) w) n
+  pub members : (p : ℕ) → p < n → member (drop (ready_at n) w) n p ≡ (is_internal (at g p) && (not (has p o) && eqb (f p) 0))
 
 -- the ids of o are in the order, and those of d are settled
 pub record Stands (s w : List ℕ) (n : ℕ) (o d : List ℕ) : Type 0 where
@@ -76,9 +76,9 @@ Beside w w' n = (y : ℕ) → Out y (counts_at n) (n + (n + n)) → get_or w' y 
 pub record Resolved (w w' : List ℕ) (n p : ℕ) : Type 0 where
   pub count : get_or w' (counts_at n + p) 0 + 1 ≡ get_or w (counts_at n + p) 0
   pub counts : (j : ℕ) → j < n → j ≢ p → get_or w' (counts_at n + j) 0 ≡ get_or w (counts_at n + j) 0
-  pub tree : Tree w' (ready_at n) n
-  pub own : member w' (ready_at n) n p ≡ (member w (ready_at n) n p || eqb (get_or w' (counts_at n + p) 0) 0)
-  pub others : (j : ℕ) → j < n → j ≢ p → member w' (ready_at n) n j ≡ member w (ready_at n) n j
+  pub tree : Tree (drop (ready_at n) w') n
+  pub own : member (drop (ready_at n) w') n p ≡ (member (drop (ready_at n) w) n p || eqb (get_or w' (counts_at n + p) 0) 0)
+  pub others : (j : ℕ) → j < n → j ≢ p → member (drop (ready_at n) w') n j ≡ member (drop (ready_at n) w) n j
   pub rest : Beside w w' n
 
 -- one id more is settled, and the order is as it was
@@ -107,9 +107,9 @@ pub record Enlisted (s w : List ℕ) (n p : ℕ) : Type 0 where
   pub room : work_words * n ≤ length w
   pub linked : Linked (nodes_of s) w n (fields * p)
   pub waiting : (j : ℕ) → j < p → get_or w (counts_at n + j) 0 ≡ length (children (at (nodes_of s) j))
-  pub tree : Tree w (ready_at n) n
-  pub members : (j : ℕ) → j < p → member w (ready_at n) n j ≡ (is_internal (at (nodes_of s) j) && eqb (length (children (at (nodes_of s) j))) 0)
-  pub idle : (j : ℕ) → p ≤ j → j < n → member w (ready_at n) n j ≡ false
+  pub tree : Tree (drop (ready_at n) w) n
+  pub members : (j : ℕ) → j < p → member (drop (ready_at n) w) n j ≡ (is_internal (at (nodes_of s) j) && eqb (length (children (at (nodes_of s) j))) 0)
+  pub idle : (j : ℕ) → p ≤ j → j < n → member (drop (ready_at n) w) n j ≡ false
 
 -- w' differs from w only from the heads on
 abbrev pub Behind : List ℕ → List ℕ → ℕ → Type 0

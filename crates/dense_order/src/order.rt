@@ -1,5 +1,5 @@
 // The order of a forest's nodes: externals by digest, blocks by id, then internals, always the lowest whose children are all in the order.
-ghost use Rattle.std.specs.Prelude.{◌≡◌, true, ◌+◌, ◌*◌, ◌<◌, ◌≤◌, length, get_or};
+ghost use Rattle.std.specs.Prelude.{◌≡◌, true, ◌+◌, ◌*◌, ◌<◌, ◌≤◌, length, drop, get_or};
 ghost use Rattle.record.specs.Node.{nodes_of};
 ghost use Rattle.forest.specs.Order.{ready};
 ghost use Rattle.forest.specs.Lent.{work_words, most};
@@ -53,7 +53,7 @@ pub(crate) fn list_externals(nodes: &[u8], work: &mut [u32], n: usize) -> usize
 fn resolve(work: &mut [u32], n: usize, p: usize)
     requires p_lt_n { (p < n) × (n ≤ most) }
     requires nonzero { 0 < get_or work.old (counts_at n + p) 0 }
-    requires tree { Tree work.old (ready_at n) n }
+    requires tree { Tree (drop (ready_at n) work.old) n }
     ensures { Resolved work.old work.new n p }
 {
     let left = work[COUNTS * n + p] - 1;
@@ -61,7 +61,7 @@ fn resolve(work: &mut [u32], n: usize, p: usize)
     if 0 < left {
         return;
     }
-    ready::put(work, READY * n, n, p);
+    ready::put(&mut work[READY * n..], n, p);
 }
 
 // Settles the id at place t of the order: each mention of it is counted off.
@@ -98,7 +98,7 @@ fn append(nodes: &[u8], work: &mut [u32], n: usize, filled: usize, p: usize)
     requires p_value { ready (nodes_of nodes.now) (span work.old 0 filled) p ≡ true }
     ensures { Appends nodes.now work.old work.new n filled p }
 {
-    ready::remove(work, READY * n, n, p);
+    ready::remove(&mut work[READY * n..], n, p);
     work[filled] = p as u32;
     settle(nodes, work, n, filled + 1, filled);
 }
@@ -109,7 +109,7 @@ fn release(nodes: &[u8], work: &mut [u32], n: usize, begun: usize) -> usize
     ensures { Released nodes.now work.new n result }
 {
     for filled in begun..n {
-        let Some(p) = ready::lowest(work, READY * n, n) else {
+        let Some(p) = ready::lowest(&work[READY * n..], n) else {
             return filled;
         };
         append(nodes, work, n, filled, p);
@@ -148,7 +148,7 @@ fn enlist(nodes: &[u8], work: &mut [u32], n: usize, p: usize)
     if (class != Class::Internal) | (0 < count) {
         return;
     }
-    ready::put(work, READY * n, n, p);
+    ready::put(&mut work[READY * n..], n, p);
 }
 
 // Enlists all ids.

@@ -1,5 +1,5 @@
 pub mod Bits
 pub mod Trees
+pub mod Edits
 pub mod Firsts
 pub mod Outcomes
-pub mod Edits

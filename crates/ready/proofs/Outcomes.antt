@@ -1,7 +1,7 @@
 -- `Changed` leaves nothing open: any two outcomes of one change are the same list.
 -- Assumes nothing.
 use Prim.Native.Nat.{ℕ, zero, suc, ◌+◌, ◌-◌, ◌*◌, ◌/◌, ◌%◌, ◌^◌, ◌≤◌, ◌<◌}
-use mathlib.Core.Path.{◌≡◌, refl, ap, sym, ◌∙◌, subst}
+use mathlib.Core.Path.{◌≡◌, refl, sym, ◌∙◌, subst}
 use mathlib.Core.Bool.{Bool, not}
 use mathlib.Core.List.{List}
 use mathlib.Core.Logic.{◌⊎◌, inl, inr}
@@ -9,8 +9,8 @@ use native.Mathlib.Decide.{dec_lt, ℕ_discrete}
 use native.Mathlib.Omega.{arith}
 use borrow.Author.Tests.{ne_eqb}
 use lib.Dec.{eqb}
-use lib.ListN.{length, get_or}
-use lib.Seq.{ext_get_or}
+use lib.ListN.{length, drop, get_or}
+use lib.Seq.{ext_get_or, get_or-drop}
 use Rattle.record.proofs.Basics.{clash}
 use Rattle.ready.specs.Tree.{width, words, word, bit, member, Tree, InRow, here, above, Changed}
 use Rattle.ready.proofs.Bits.{bit_lt, bits_same}
@@ -24,28 +24,30 @@ alike (suc a) zero f g e = let z = rw (ne_eqb (suc a) 0 (omega arith)) at e in a
 alike (suc a) (suc b) f g e = omega arith
 
 -- the members of a set give every word of its rows
-module _ (u v : List ℕ) (small : (p : ℕ) → (get_or u p 0 < 2 ^ width) × (get_or v p 0 < 2 ^ width)) where
-  row_same : {at n : ℕ} → Tree u at n → Tree v at n → ((i : ℕ) → i < n → member u at n i ≡ member v at n i) → (k : ℕ) → k < words n → word u at k ≡ word v at k
-  row_same {at} {n} t s m k h = bits_same width (word u at k) (word v at k) (small (at + k)).0 (small (at + k)).1 bits
-    where
-      bits : (j : ℕ) → j < width → bit (word u at k) j ≡ bit (word v at k) j
-      bits j l =
-          elim (dec_lt (width * k + j) n) [
-            | yes q ↦
-                let z : (width * k + j) / width ≡ k = omega arith in
-                let y : (width * k + j) % width ≡ j = omega arith in
-                let f = m (width * k + j) q in
-                let e = rw (z, y) at f in
-                alike _ _ (bit_lt (word u at k) j) (bit_lt (word v at k) j) e
-            | no q ↦ (row_of t).clear k j h l (omega arith) ∙ sym ((row_of s).clear k j h l (omega arith))
-          ]
+row_same : (u v : List ℕ) (small : (p : ℕ) → (get_or u p 0 < 2 ^ width) × (get_or v p 0 < 2 ^ width)) {n : ℕ} → Tree u n → Tree v n
+    → ((i : ℕ) → i < n → member u n i ≡ member v n i) → (k : ℕ) → k < words n → word u k ≡ word v k
+row_same u v small {n} t s m k h = bits_same width (word u k) (word v k) (small k).0 (small k).1 bits
+  where
+    bits : (j : ℕ) → j < width → bit (word u k) j ≡ bit (word v k) j
+    bits j l =
+        elim (dec_lt (width * k + j) n) [
+          | yes q ↦
+              let z : (width * k + j) / width ≡ k = omega arith in
+              let y : (width * k + j) % width ≡ j = omega arith in
+              let f = m (width * k + j) q in
+              let e = rw (z, y) at f in
+              alike _ _ (bit_lt (word u k) j) (bit_lt (word v k) j) e
+          | no q ↦ (row_of t).clear k j h l (omega arith) ∙ sym ((row_of s).clear k j h l (omega arith))
+        ]
 
-  rows_same : {at n k : ℕ} → Tree u at n → Tree v at n → ((i : ℕ) → i < n → member u at n i ≡ member v at n i) → InRow n k → word u at k ≡ word v at k
-  rows_same {at = at} t s m (here h) = row_same t s m _ h
-  rows_same {at = at} {n = n} t s m (above {k = k} l r) =
-      let z : at + words n + k ≡ at + (words n + k) = omega arith in
-      let e = rows_same {at = at + words n} (above_tree l t) (above_tree l s) (λ i h. above_tells l t i h ∙ (tells (row_same t s m i h) ∙ sym (above_tells l s i h))) r in
-      rw z at e
+rows_same : (u v : List ℕ) (small : (p : ℕ) → (get_or u p 0 < 2 ^ width) × (get_or v p 0 < 2 ^ width)) {n k : ℕ} → Tree u n → Tree v n
+    → ((i : ℕ) → i < n → member u n i ≡ member v n i) → InRow n k → word u k ≡ word v k
+rows_same u v small t s m (here h) = row_same u v small t s m _ h
+rows_same u v small {n = n} t s m (above {k = k} l r) =
+    sym (get_or-drop (words n) u k 0)
+    ∙ (rows_same (drop (words n) u) (drop (words n) v) (λ p. rw (get_or-drop (words n) u p 0, get_or-drop (words n) v p 0) (small (words n + p))) (above_tree l t) (above_tree l s)
+    (λ i h. above_tells l t i h ∙ (tells (row_same u v small t s m i h) ∙ sym (above_tells l s i h))) r
+    ∙ get_or-drop (words n) v k 0)
 
 -- a word of a row is of the first, or of one above
 past : {n k : ℕ} → InRow n k → (k < words n) ⊎ ((width < n) × InRow (words n) (k - words n))
@@ -78,26 +80,20 @@ in_row (suc m) n k h = go (dec_lt k (words n)) (dec_lt width n) (λ l. in_row m 
             other (inl b) = a b
             other (inr (b, q)) = r q
 
-pub one_outcome : (b : Bool) (w u v : List ℕ) (at n i : ℕ) → length u ≡ length v → ((p : ℕ) → (get_or u p 0 < 2 ^ width) × (get_or v p 0 < 2 ^ width)) → Changed b w u at n i → Changed b w v at n i → u ≡ v
-one_outcome b w u v at n i l small c d =
-    ext_get_or 0 u v l
-    (λ p h.
-    elim (dec_lt p at) [
-      | yes q ↦ c.rest p (λ z. absurd (omega arith)) ∙ sym (d.rest p (λ z. absurd (omega arith)))
-      | no q ↦
-          elim (dec_lt p (at + (n + n))) [
-            | no r ↦ c.rest p (λ z. omega arith) ∙ sym (d.rest p (λ z. omega arith))
-            | yes r ↦ let z : at + (p - at) ≡ p = omega arith in ap (λ (x : ℕ). get_or u x 0) (sym z) ∙ (inside (p - at) (omega arith) (in_row n n (p - at) (omega arith)) ∙ ap (λ (x : ℕ). get_or v x 0) z)
-          ]
+pub one_outcome : (b : Bool) (w u v : List ℕ) (n i : ℕ) → length u ≡ length v → ((p : ℕ) → (get_or u p 0 < 2 ^ width) × (get_or v p 0 < 2 ^ width)) → Changed b w u n i → Changed b w v n i → u ≡ v
+one_outcome b w u v n i l small c d =
+    ext_get_or 0 u v l (λ p h. elim (dec_lt p (n + n)) [
+      | no r ↦ c.rest p (omega arith) ∙ sym (d.rest p (omega arith))
+      | yes r ↦ inside p r (in_row n n p (omega arith))
     ])
   where
-    members : (j : ℕ) → j < n → member u at n j ≡ member v at n j
+    members : (j : ℕ) → j < n → member u n j ≡ member v n j
     members j h =
         elim (ℕ_discrete j i) [
           | yes q ↦ rw q (c.changed ∙ sym d.changed)
           | no q ↦ c.others j h q ∙ sym (d.others j h q)
         ]
 
-    inside : (k : ℕ) → k < n + n → Dec (InRow n k) → word u at k ≡ word v at k
+    inside : (k : ℕ) → k < n + n → Dec (InRow n k) → word u k ≡ word v k
     inside k h (yes r) = rows_same u v small c.tree d.tree members r
     inside k h (no r) = c.unused k h r ∙ sym (d.unused k h r)

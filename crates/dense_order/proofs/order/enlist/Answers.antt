@@ -3,7 +3,12 @@ use mathlib.Core.Bool.{not}
 use Rattle.record.specs.Node.{class, is_internal, node_at}
 use Rattle.record.specs.declared.Class.TheVariants.{Internal}
 use Rattle.record.proofs.Classes.{class_eq, class_read}
-use Rattle.dense_order.proofs.Opening.{enlists_plain, enlists_ready, tree_counted, test_plain, test_ready}
+use Prim.Native.Nat.{◌+◌}
+use native.Mathlib.Omega.{arith}
+use lib.ListN.{length-set}
+use Rattle.dense_order.specs.State.{counts_at, ready_at}
+use Rattle.dense_order.proofs.Rows.{lent_tree, back_at}
+use Rattle.dense_order.proofs.Opening.{counted, enlists_plain, enlists_ready, tree_counted, test_plain, test_ready}
 use Rattle.dense_order.proofs.order.enlist.Goals as goal
 use Rattle.dense_order.proofs.order.enlist.Goals.{After-ne}
 
@@ -23,9 +28,12 @@ returns-then-ne-count c =
 pub put-requires : goal.put-requires
 put-requires c =
     let l = c.link_kids-count in
-    record { i_lt_n = c.requires.p_lt_n; tree = (tree_counted c.requires.enlisted c.requires.p_lt_n l.ensures l.auto.work).0 }
+    record { i_lt_n = c.requires.p_lt_n; tree = lent_tree (counted c.requires.enlisted c.requires.p_lt_n l.ensures l.auto.work) (ready_at c.args.n) c.args.n (tree_counted c.requires.enlisted c.requires.p_lt_n l.ensures l.auto.work).0 }
 
 pub returns : goal.returns
 returns c =
     let l = c.link_kids-count in
-    enlists_ready c.requires.enlisted c.requires.p_lt_n l.ensures l.auto.work _ (test_ready c.requires.enlisted c.requires.p_lt_n l.ensures l.auto.work _ (compared (goal.at.returns c).After-ne) c.if-ne-count.false) c.put.auto.work c.put.ensures
+    let z = l.auto.work in
+    let y = c.requires.enlisted.room in
+    let e = back_at (omega (arith, length-set l.new.work (counts_at c.args.n + c.args.p) l.result)) c.put.auto.rows c.put.ensures in
+    enlists_ready c.requires.enlisted c.requires.p_lt_n l.ensures l.auto.work _ (test_ready c.requires.enlisted c.requires.p_lt_n l.ensures l.auto.work _ (compared (goal.at.returns c).After-ne) c.if-ne-count.false) e.0 e.1
