@@ -1,6 +1,6 @@
 -- Laws of delivering: what the settled room gives the three writers, and that they write the merged forest.
 -- Assumes nothing.
-use Prim.Native.Nat.{ℕ, ◌+◌, ◌-◌, ◌*◌, ◌<◌, ◌≤◌}
+use Prim.Native.Nat.{ℕ, ◌+◌, ◌-◌, ◌<◌}
 use mathlib.Core.Path.{◌≡◌, refl, sym, ◌∙◌, ap}
 use mathlib.Core.List.{List, map, Memᴰ}
 use Rattle.std.specs.Prelude.{Option, Some, None}
@@ -13,7 +13,6 @@ use Rattle.record.specs.declared.Node.{Node}
 use Rattle.record.proofs.Lengths.{length_run}
 use Rattle.record.proofs.Nodes.{children_renumber}
 use Rattle.forest.specs.Graph.{no_node, at, listed, replaced_by, next}
-use Rattle.forest.specs.Lent.{work_words, most}
 use Rattle.forest.specs.Merge.{carried, merged}
 use Rattle.forest.specs.Order.{ids, order, place_in, arranged}
 use Rattle.forest.specs.Walk.{State, id_in, or_none, id_of}

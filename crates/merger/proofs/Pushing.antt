@@ -5,8 +5,7 @@ use mathlib.Core.Path.{◌≡◌, refl, sym, ◌∙◌}
 use mathlib.Core.List.{List, [], ◌∷◌, map}
 use Rattle.std.specs.Prelude.{Some, None, Option}
 use native.Mathlib.Omega.{arith}
-use lib.ListN.{length, take, get_or, set, length-append}
-use Rattle.record.specs.Lists.{run}
+use lib.ListN.{length, take, set, length-append}
 use Rattle.record.specs.Node.{fields, renumber, same_node}
 use Rattle.record.specs.declared.Node.{Node}
 use Rattle.forest.specs.Graph.{at}

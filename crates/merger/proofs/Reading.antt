@@ -1,13 +1,12 @@
 -- Merged nodes as the walk has them: records with the ids that its states have for their children.
 -- Assumes nothing.
-use Prim.Native.Nat.{ℕ, suc, ◌+◌, ◌<◌}
-use mathlib.Core.Path.{◌≡◌, refl, sym, ◌∙◌, ap}
+use Prim.Native.Nat.{ℕ, ◌+◌, ◌<◌}
+use mathlib.Core.Path.{◌≡◌, sym, ◌∙◌, ap}
 use mathlib.Core.List.Memᴰ
-use mathlib.Core.List.{List, [], ◌∷◌, map, Memᴰ}
+use mathlib.Core.List.{List, map, Memᴰ}
 use native.Mathlib.Omega.{arith}
 use lib.ListN.{length, take, get_or, length-map, length-take}
 use lib.Seq.{ext_get_or, get_or-take}
-use Rattle.record.specs.Lists.{run}
 use Rattle.record.specs.Node.{node_at, children, renumber}
 use Rattle.record.specs.declared.Node.{Node}
 use Rattle.record.proofs.Nodes.{children_renumber}
