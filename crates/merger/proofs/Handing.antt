@@ -1,6 +1,6 @@
 -- Laws of delivering: what the settled room gives the three writers, and that they write the merged forest.
 -- Assumes nothing.
-use Prim.Native.Nat.{ℕ, ◌+◌, ◌-◌, ◌*◌, ◌<◌, ◌≤◌}
+use Prim.Native.Nat.{ℕ, ◌+◌, ◌-◌, ◌<◌}
 use mathlib.Core.Path.{◌≡◌, refl, sym, ◌∙◌, ap}
 use mathlib.Core.List.{List, map, Memᴰ}
 use Rattle.std.specs.Prelude.{Option, Some, None}
@@ -13,7 +13,6 @@ use Rattle.record.specs.declared.Node.{Node}
 use Rattle.record.proofs.Lengths.{length_run}
 use Rattle.record.proofs.Nodes.{children_renumber}
 use Rattle.forest.specs.Graph.{no_node, at, listed, replaced_by, next}
-use Rattle.forest.specs.Lent.{work_words, most}
 use Rattle.forest.specs.Merge.{carried, merged}
 use Rattle.forest.specs.Order.{ids, order, place_in, arranged}
 use Rattle.forest.specs.Walk.{State, id_in, or_none, id_of}
@@ -27,7 +26,7 @@ use Rattle.dense_order.proofs.Filling.{ids_at}
 use Rattle.merger.specs.Rooms.{shown_as}
 use Rattle.merger.specs.Sections.{bases_at, order_at, starts_at}
 use Rattle.merger.specs.Settling.{carried_word, Settled, Delivered}
-use Rattle.merger.specs.Walking.{Writable, merged_at}
+use Rattle.merger.specs.Walking.{EachReadable, merged_at}
 use Rattle.merger.proofs.Renumbering.{renumber_twice}
 use Rattle.merger.proofs.Writing.{shown_none, shown_id}
 
@@ -62,9 +61,6 @@ module _ {s w : List ℕ} {n m count : ℕ} {g : List Node} {ps : List ℕ} {t :
       let (i, e) = in_id_in t.done (kid j c) (a.fine.closed (source j) (kid j c) (source_ended j h) q) in
       (b, a.ids (kid j c) b ∙ rw e refl)
 
-  pub room_given : (n ≤ most) × (work_words * n ≤ length w)
-  room_given = (a.mapped.few, a.mapped.room)
-
   -- the sections that the writers read
   abbrev bases : List ℕ
   bases = take (bases_at n + n - bases_at n) (drop (bases_at n) w)
@@ -84,11 +80,8 @@ module _ {s w : List ℕ} {n m count : ℕ} {g : List Node} {ps : List ℕ} {t :
   states_long : length states ≡ n
   states_long = let f = a.mapped.room in simp length-take (omega arith)
 
-  pub placed_long : length placed ≡ m
+  placed_long : length placed ≡ m
   placed_long = let f = a.mapped.room in let k = a.few in simp (length-take, length-drop) (omega arith)
-
-  pub heads_long : length heads ≡ count
-  heads_long = let f = a.mapped.room in let k = a.less in simp (length-take, length-drop) (omega arith)
 
   base_at : (p : ℕ) → p < n → get_or bases p 0 ≡ get_or w (bases_at n + p) 0
   base_at p h = get_or-take (bases_at n + n - bases_at n) (drop (bases_at n) w) p 0 (omega arith) ∙ get_or-drop (bases_at n) w p 0
@@ -99,8 +92,8 @@ module _ {s w : List ℕ} {n m count : ℕ} {g : List Node} {ps : List ℕ} {t :
   placed_at : (j : ℕ) → j < m → get_or placed j 0 ≡ source j
   placed_at j h = get_or-take (order_at n + m - order_at n) (drop (order_at n) w) j 0 (omega arith) ∙ get_or-drop (order_at n) w j 0
 
-  pub writable : Writable s bases states placed
-  writable j h =
+  pub readable : EachReadable s bases states placed
+  readable j h =
       let i : j < m = let l = placed_long in omega arith in
       let low = source_below j i in
       rw (placed_at j i) (record {

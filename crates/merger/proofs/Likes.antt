@@ -1,9 +1,9 @@
--- Laws of the search for an equal earlier node: the same children, one node like another, the lowest of them.
+-- Laws of the search for an equal earlier node: the same children, and one node like another.
 -- Assumes nothing.
 use Prim.Native.Nat.{ℕ, suc, ◌+◌, ◌<◌, ◌≤◌}
 use mathlib.Core.Path.{◌≡◌, refl, sym, ◌∙◌, ap}
 use mathlib.Core.Bool.{Bool, true, false, not, ◌&&◌, and-false}
-use mathlib.Core.List.{List, [], ◌∷◌, map}
+use mathlib.Core.List.{List, [], ◌∷◌}
 use mathlib.Core.Logic.{◌≢◌}
 use native.Mathlib.Decide.{dec_lt}
 use native.Mathlib.Omega.{arith}
@@ -16,7 +16,6 @@ use Rattle.record.specs.Lists.{same}
 use Rattle.record.specs.Node.{fields, node_at, children, renumber, same_node}
 use Rattle.record.specs.declared.Node.{Node}
 use Rattle.record.proofs.Basics.{both_true}
-use Rattle.forest.specs.Lists.{here_or, lowest}
 use Rattle.sorting.specs.Digests.{holds}
 use Rattle.merger.specs.Walking.{merged_at}
 
@@ -102,10 +101,3 @@ module _ (s b v : List ℕ) (q : ℕ) (x : Node) where
     pub like_by_children : holds s x.digest q ≡ true → {r : Bool} → r ≡ same (children x) (children (merged_at s b v q)) → r ≡ same_node x (merged_at s b v q)
     unfolding same_node merged_at renumber holds
     like_by_children e f = rw (eq-eqb x.kind (node_at s q).kind (sym kind), e) f
-
--- THE LOWEST --------------------------------------------------------------------------------------
-
-pub lowest_map : {A B : Type 0} (t : B → Bool) (f : A → B) (l : List A) → lowest t (map f l) ≡ lowest (λ x. t (f x)) l
-unfolding lowest
-lowest_map t f [] = refl
-lowest_map t f (x ∷ l) = ap (here_or (t (f x))) (lowest_map t f l)

@@ -5,25 +5,24 @@ use mathlib.Core.Path.{◌≡◌, refl, sym, ◌∙◌}
 use mathlib.Core.List.{List, [], ◌∷◌, map}
 use Rattle.std.specs.Prelude.{Some, None, Option}
 use native.Mathlib.Omega.{arith}
-use lib.ListN.{length, get_or, set, length-append}
-use Rattle.record.specs.Lists.{run}
+use lib.ListN.{length, take, set, length-append}
 use Rattle.record.specs.Node.{fields, renumber, same_node}
 use Rattle.record.specs.declared.Node.{Node}
 use Rattle.forest.specs.Graph.{at}
 use Rattle.forest.specs.Lists.{lowest}
 use Rattle.forest.specs.Walk.{State, id_of, ended, push, finish}
 use Rattle.claims.specs.Searches.{lowest_lt}
-use Rattle.merger.specs.Walking.{merged_at, Readable, Holds, Pushing}
+use Rattle.merger.specs.Walking.{merged_at, Readable, EachReadable, Holds, Pushing}
 use Rattle.merger.proofs.Fine.{fine_fewer}
 use Rattle.merger.proofs.Finishing.{holds_ended, holds_new}
-use Rattle.merger.proofs.Reading.{readable, source_readable, merged_is, merged_list}
+use Rattle.merger.proofs.Reading.{readable, sources_readable, merged_is, merged_list}
 
 module _ {s b v u : List ℕ} {m p : ℕ} {g : List Node} {path : List ℕ} {t : State} (q : Pushing s b v u m p g path t) where
   pub own_readable : Readable s b v p
   own_readable = readable q.mapped q.fine q.holds p q.below q.ended
 
-  pub sources_readable : (k : ℕ) → k < m → Readable s b v (get_or u k 0)
-  sources_readable k h = source_readable q.mapped q.fine q.holds k (rw (← q.counted) h)
+  pub each_readable : EachReadable s b v (take m u)
+  each_readable = rw q.counted (sources_readable q.mapped q.fine q.holds)
 
   -- there is room for one more
   pub room_left : m < length b
@@ -35,8 +34,8 @@ module _ {s b v u : List ℕ} {m p : ℕ} {g : List Node} {path : List ℕ} {t :
     own_count = rw is (q.mapped.fit p q.below)
 
     -- the search among the merged nodes
-    module _ (r : Option ℕ) (f : r ≡ (lowest (same_node x) (map (λ k. merged_at s b v (get_or u k 0)) (run 0 m)))) where
-      found_is : lowest (same_node x) (map (λ k. merged_at s b v (get_or u k 0)) (run 0 m)) ≡ lowest (same_node (renumber (id_of t) (at g p))) t.merged
+    module _ (r : Option ℕ) (f : r ≡ (lowest (same_node x) (map (merged_at s b v) (take m u)))) where
+      found_is : lowest (same_node x) (map (merged_at s b v) (take m u)) ≡ lowest (same_node (renumber (id_of t) (at g p))) t.merged
       found_is = rw (is, merged_is q.mapped q.fine q.holds p q.below q.ended, q.counted, merged_list q.mapped q.fine q.holds) refl
 
       -- an equal earlier node has the id k

@@ -1,12 +1,12 @@
 -- Merged nodes as the walk has them: records with the ids that its states have for their children.
 -- Assumes nothing.
-use Prim.Native.Nat.{ℕ, suc, ◌+◌, ◌<◌}
-use mathlib.Core.Path.{◌≡◌, refl, sym, ◌∙◌, ap}
+use Prim.Native.Nat.{ℕ, ◌+◌, ◌<◌}
+use mathlib.Core.Path.{◌≡◌, sym, ◌∙◌, ap}
 use mathlib.Core.List.Memᴰ
-use mathlib.Core.List.{List, [], ◌∷◌, map, Memᴰ}
+use mathlib.Core.List.{List, map, Memᴰ}
 use native.Mathlib.Omega.{arith}
-use lib.ListN.{length, get_or}
-use Rattle.record.specs.Lists.{run}
+use lib.ListN.{length, take, get_or, length-map, length-take}
+use lib.Seq.{ext_get_or, get_or-take}
 use Rattle.record.specs.Node.{node_at, children, renumber}
 use Rattle.record.specs.declared.Node.{Node}
 use Rattle.record.proofs.Nodes.{children_renumber}
@@ -14,19 +14,12 @@ use Rattle.forest.specs.Graph.{no_node, at, next}
 use Rattle.forest.specs.Walk.{State, id_of}
 use Rattle.claims.specs.Sound.{Finished}
 use Rattle.claims.specs.Walks.{id_in_in}
-use Rattle.merger.specs.Walking.{Mapped, merged_at, Readable, Source, Fine, Holds}
+use Rattle.merger.specs.Walking.{Mapped, merged_at, Readable, EachReadable, Source, Fine, Holds}
+use Rattle.sorting.proofs.Uses.{get_d_map}
+use Rattle.merger.proofs.Fine.{fine_few}
 use Rattle.merger.proofs.Holding.{word_of, child_next}
 use Rattle.dense_order.proofs.Delivering.{renumber_agree}
 use Rattle.merger.proofs.Renumbering.{renumber_twice}
-
--- a list by its places
-listed_by : (l : List Node) (f : ℕ → Node) (a : ℕ) → ((k : ℕ) → k < length l → f (a + k) ≡ get_or l k no_node) → map f (run a (length l)) ≡ l
-unfolding run
-listed_by [] f a h = refl
-listed_by (x ∷ l) f a h =
-    let z : a + 0 ≡ a = omega arith in
-    let e : f a ≡ x = rw z at (h 0 (omega arith)) in
-    rw (e, listed_by l f (suc a) (λ k i. let y : a + suc k ≡ suc a + k = omega arith in rw y at (h (suc k) (omega arith))))
 
 module _ {s b v u : List ℕ} {g : List Node} {path : List ℕ} {t : State} (m : Mapped s b g) (f : Fine g (length b) path t) (h : Holds g v u (length b) path t) where
   -- a position whose children are finished
@@ -60,10 +53,21 @@ module _ {s b v u : List ℕ} {g : List Node} {path : List ℕ} {t : State} (m :
   pub source_below : {q k : ℕ} → Source g t q k → q < length b
   source_below o = f.within _ (source_done o)
 
-  pub source_readable : (k : ℕ) → k < length t.merged → Readable s b v (get_or u k 0)
-  source_readable k l = let o = h.sources k l in readable _ (source_below o) (λ c j. f.closed _ c (source_done o) j)
+  fronts : length (take (length t.merged) u) ≡ length t.merged
+  fronts = let z = fine_few f in let y = h.wide in simp length-take (omega arith)
+
+  source_at : (k : ℕ) → k < length t.merged → Source g t (get_or (take (length t.merged) u) k 0) k
+  source_at k l = rw (get_or-take (length t.merged) u k 0 l) (h.sources k l)
+
+  pub sources_readable : EachReadable s b v (take (length t.merged) u)
+  sources_readable k l = let o = source_at k (omega (arith, fronts)) in readable _ (source_below o) (λ c j. f.closed _ c (source_done o) j)
 
   -- and the merged nodes are read off the sources
-  pub merged_list : map (λ k. merged_at s b v (get_or u k 0)) (run 0 (length t.merged)) ≡ t.merged
+  pub merged_list : map (merged_at s b v) (take (length t.merged) u) ≡ t.merged
   unfolding at
-  merged_list = listed_by t.merged _ 0 (λ k l. let z : 0 + k ≡ k = omega arith in let o = h.sources k l in rw z (merged_is _ (source_below o) (λ c j. f.closed _ c (source_done o) j) ∙ sym o.node))
+  merged_list =
+      let l : length (map (merged_at s b v) (take (length t.merged) u)) ≡ length (take (length t.merged) u) = length-map (take (length t.merged) u) _ in
+      let n = fronts in
+      ext_get_or no_node (map (merged_at s b v) (take (length t.merged) u)) t.merged (omega arith) (λ k i.
+      let o = source_at k (omega arith) in
+      get_d_map (merged_at s b v) (take (length t.merged) u) k 0 no_node (omega arith) ∙ (merged_is _ (source_below o) (λ c j. f.closed _ c (source_done o) j) ∙ sym o.node))

@@ -87,9 +87,9 @@ pub record Readable (s b v : List ℕ) (p : ℕ) : Type 0 where
   pub fit : (node_at s p).count ≤ fields
   pub ended : (c : ℕ) → Memᴰ c (children (node_at s p)) → (get_or b p 0 + c < length v) × (1 < get_or v (get_or b p 0 + c) 0)
 
--- the sources o can be read
-abbrev pub Writable : List ℕ → List ℕ → List ℕ → List ℕ → Type 0
-Writable s b v o = (j : ℕ) → j < length o → Readable s b v (get_or o j 0)
+-- so is each of the positions o
+abbrev pub EachReadable : List ℕ → List ℕ → List ℕ → List ℕ → Type 0
+EachReadable s b v o = (j : ℕ) → j < length o → Readable s b v (get_or o j 0)
 
 -- the merged id k comes from position q
 pub record Source (g : List Node) (t : State) (q k : ℕ) : Type 0 where

@@ -6,18 +6,22 @@ ghost use Rattle.record.specs.declared.Node.{Node};
 ghost use Rattle.forest.specs.Walk.{State};
 ghost use Rattle.merger.specs.Rooms.{shown_as};
 ghost use Rattle.merger.specs.Settling.{Settled, Result, Delivered};
-ghost use Rattle.merger.specs.Walking.{Writable, merged_at};
+ghost use Rattle.merger.specs.Walking.{EachReadable, merged_at};
 
 use crate::{BASES, NO_ID, ORDER, STARTS, merging};
 
 // Writes the records of the merged nodes, whose sources stand in their order; what stands behind them stays.
 fn write_nodes(nodes: &[u8], bases: &[u32], states: &[u32], order: &[u32], out: &mut [u8])
-    requires writable { Writable nodes.now bases.now states.now order.now }
+    requires readable { EachReadable nodes.now bases.now states.now order.now }
     requires in_bounds { size * length order.now ≤ length out.old }
     ensures { out.new ≡ over out.old 0 (flat node_bytes (map (merged_at nodes.now bases.now states.now) order.now)) }
 {
     for (j, source) in order.iter().enumerate() {
-        record::put_node(out, j, merging::merged_node(nodes, bases, states, *source as usize));
+        record::put_node(
+            out,
+            j,
+            merging::merged_node(nodes, bases, states, *source as usize),
+        );
     }
 }
 
@@ -63,7 +67,13 @@ pub(crate) fn deliver(
 {
     let (bases, order, starts) = (BASES * n, ORDER * n, STARTS * n);
     let states = &work[..n];
-    write_nodes(nodes, &work[bases..bases + n], states, &work[order..order + m], node_out);
+    write_nodes(
+        nodes,
+        &work[bases..bases + n],
+        states,
+        &work[order..order + m],
+        node_out,
+    );
     write_roots(&work[starts..starts + count], root_out);
     write_ids(states, ids);
 }

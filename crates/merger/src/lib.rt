@@ -29,8 +29,9 @@ pub const NO_ID: u32 = 4294967295;
 const EXTERNAL: u32 = 0;
 
 // The sections of the work room, of n words each: the state of each position from 0 on (0 unseen, 1 open, else 2 more than its new id), then
-// these: the position that a merged id comes from, the first position of a position's forest, the non-externals by digest, the sort's spare
-// section, the sources of merged nodes in their order, the place of a merged id in it, whether a new id is a root, the new roots.
+// these, and the non-externals by digest behind the bases: the position that a merged id comes from, the first position of a position's
+// forest, the sort's spare section, the sources of merged nodes in their order, the place of a merged id in it, whether a new id is a root,
+// the new roots.
 const SOURCES: usize = 1;
 
 const BASES: usize = 2;
@@ -61,7 +62,16 @@ fn walked(
     let (bases, rest) = rest.split_at_mut(n);
     let (holders, spare) = rest.split_at_mut(n);
     let count = sort_holders(nodes, holders, spare);
-    walk_roots(table, nodes, roots, bases, &holders[..count], states, sources, limit)
+    walk_roots(
+        table,
+        nodes,
+        roots,
+        bases,
+        &holders[..count],
+        states,
+        sources,
+        limit,
+    )
 }
 
 // Merges in the room and says how many nodes and roots the result has, unless a record is bad, a root or a child past the end, the walk stops, or the outputs are short.

@@ -1,11 +1,11 @@
 // Step 3: a finished node becomes an equal earlier one, or is appended.
-ghost use Rattle.std.specs.Prelude.{◌≡◌, List, map, ℕ, ◌<◌, ◌≤◌, length, get_or};
-ghost use Rattle.record.specs.Lists.{same, run};
+ghost use Rattle.std.specs.Prelude.{◌≡◌, List, map, ℕ, ◌≤◌, length, take};
+ghost use Rattle.record.specs.Lists.{same};
 ghost use Rattle.record.specs.Node.{fields, children, same_node};
 ghost use Rattle.record.specs.declared.Node.{Node};
 ghost use Rattle.forest.specs.Lists.{lowest};
 ghost use Rattle.forest.specs.Walk.{State, finish};
-ghost use Rattle.merger.specs.Walking.{Readable, merged_at, PushingAt, Pushable, Kept, Came};
+ghost use Rattle.merger.specs.Walking.{Readable, EachReadable, merged_at, PushingAt, Pushable, Kept, Came};
 
 use record::{FIELDS, Node};
 
@@ -91,17 +91,14 @@ impl Walk<'_> {
 
     // The lowest merged id whose node is like this one.
     fn find_equal(&self, node: Node, count: usize) -> Option<usize>
-        requires by_index { (k : ℕ) → k < count → Readable self.now.nodes.now self.now.bases.now self.now.states.now (get_or self.now.sources.now k 0) }
-        requires count_le_len { count ≤ length self.now.sources.now }
+        requires in_bounds { count ≤ length self.now.sources.now }
+        requires readable { EachReadable self.now.nodes.now self.now.bases.now self.now.states.now (take count self.now.sources.now) }
         requires count_le_fields { node.count ≤ fields }
-        ensures { result ≡ lowest (same_node node) (map (λ k. merged_at self.now.nodes.now self.now.bases.now self.now.states.now (get_or self.now.sources.now k 0)) (run 0 count)) }
+        ensures { result ≡ lowest (same_node node) (map (merged_at self.now.nodes.now self.now.bases.now self.now.states.now) (take count self.now.sources.now)) }
     {
-        for k in 0..count {
-            if self.is_like(node, self.sources[k] as usize) {
-                return Some(k);
-            }
-        }
-        None
+        self.sources[..count]
+            .iter()
+            .position(|source| self.is_like(node, *source as usize))
     }
 
     // Step 3: finishes position p with the id of an equal earlier node, else appends it; says how many nodes are merged.

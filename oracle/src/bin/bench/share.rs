@@ -8,7 +8,7 @@ use std::{
 };
 
 /// The function that the search is inlined into.
-const SEARCH: &str = "merger::merging::push";
+const SEARCH: &str = "merger::merging::Walk::push";
 
 /// The merge's other functions, and what it calls: what else the samples show is not the merge.
 const MERGE: [&str; 4] = ["forest_merge", "open_node", "sort_part", "memset"];

@@ -1,5 +1,4 @@
 use mathlib.Core.Bool.{not}
-use lib.ListN.{length}
 use Rattle.record.specs.Lists.{run}
 use Rattle.record.specs.Node.{node_at, is_external}
 use Rattle.sorting.proofs.Keeping.{Keeping}

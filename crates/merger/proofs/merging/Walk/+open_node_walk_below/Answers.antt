@@ -7,7 +7,7 @@ use lib.ListN.{get_or}
 use mathlib.Core.Path.{◌≡◌, ◌∙◌, refl, sym}
 use native.Mathlib.Omega.{arith}
 use borrow.Author.Rules.{rules}
-use Prim.Native.Nat.{ℕ, ◌<◌, ◌+◌, ◌*◌}
+use Prim.Native.Nat.{ℕ}
 use Rattle.merger.proofs.merging.Walk.+open_node_walk_below.Goals as goal
 
 pub open_node-returns-then-state-gt1-clause-walks : goal.open_node-returns-then-state-gt1-clause-walks

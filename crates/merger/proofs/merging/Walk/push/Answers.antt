@@ -1,15 +1,15 @@
-use Rattle.merger.proofs.Pushing.{own_readable, sources_readable, room_left, own_count, found_low, pushed_equal, pushed_new}
+use Rattle.merger.proofs.Pushing.{own_readable, each_readable, room_left, own_count, found_low, pushed_equal, pushed_new}
 use native.Mathlib.Omega.{arith}
 use Rattle.merger.proofs.merging.Walk.push.Goals as goal
 
 pub merged-node-requires : goal.merged-node-requires
 merged-node-requires c = own_readable c.requires.pushing
 
-pub find_equal-requires-clause-by_index : goal.find_equal-requires-clause-by_index
-find_equal-requires-clause-by_index c = sources_readable c.requires.pushing
+pub find_equal-requires-clause-readable : goal.find_equal-requires-clause-readable
+find_equal-requires-clause-readable c = each_readable c.requires.pushing
 
-pub find_equal-requires-clause-count_le_len : goal.find_equal-requires-clause-count_le_len
-find_equal-requires-clause-count_le_len c = let q = c.requires.pushing in omega (arith, room_left q, q.holds.wide)
+pub find_equal-requires-clause-in_bounds : goal.find_equal-requires-clause-in_bounds
+find_equal-requires-clause-in_bounds c = let q = c.requires.pushing in omega (arith, room_left q, q.holds.wide)
 
 pub find_equal-requires-clause-count_le_fields : goal.find_equal-requires-clause-count_le_fields
 find_equal-requires-clause-count_le_fields c = own_count c.requires.pushing _ c.merged-node.ensures
