@@ -10,9 +10,7 @@ use Rattle.forest.specs.Lists.{firsts, keep, sort}
 use Rattle.forest.specs.Merge.{root_sum}
 use Rattle.sorting.specs.Digests.{less}
 use Rattle.sorting.specs.Promises.{Listed}
-use Rattle.merger.specs.Sections.{order_at}
 use Rattle.merger.specs.Table.{starts}
-use Rattle.merger.specs.Walking.{Roomy}
 
 -- the sources of merged nodes by id, room for as many in their order, and room to sort them
 pub record Sourced (s l o e : List ℕ) : Type 0 where

@@ -1,5 +1,5 @@
 // Step 3: a finished node becomes an equal earlier one, or is appended.
-ghost use Rattle.std.specs.Prelude.{◌≡◌, List, map, ℕ, ◌≤◌, length, take};
+ghost use Rattle.std.specs.Prelude.{◌≡◌, List, map, ℕ, ◌+◌, ◌-◌, ◌<◌, ◌≤◌, length, take, get_or};
 ghost use Rattle.record.specs.Lists.{same};
 ghost use Rattle.record.specs.Node.{fields, children, same_node};
 ghost use Rattle.record.specs.declared.Node.{Node};
@@ -25,23 +25,12 @@ pub(crate) fn merged_node(nodes: &[u8], bases: &[u32], states: &[u32], p: usize)
     requires { Readable nodes.now bases.now states.now p }
     ensures { result ≡ merged_at nodes.now bases.now states.now p }
 {
-    let node = record::node_at(nodes, p);
     let base = bases[p] as usize;
-    let count = node.count as usize;
-    let mut kids = node.kids;
-    let digest = node.digest;
-    // Over all fields: a loop of fixed length keeps them in registers.
-    for i in 0..FIELDS {
-        if i < count {
-            kids[i] = states[base + kids[i] as usize] - 2;
-        }
-    }
-    Node {
-        kind: node.kind,
-        count: node.count,
-        kids,
-        digest,
-    }
+    let child_id = |child: u32| -> u32
+        requires { (base + child < length states.now) × (1 < get_or states.now (base + child) 0) }
+        ensures { result ≡ get_or states.entry.now (base + child) 0 - 2 }
+    { states[base + child as usize] - 2 };
+    record::renumbered(record::node_at(nodes, p), child_id)
 }
 
 // Whether two nodes have the same children.
