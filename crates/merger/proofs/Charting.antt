@@ -29,7 +29,7 @@ use Rattle.sorting.proofs.Uses.{all_listed, at_node_lem}
 use Rattle.dense_order.proofs.Arranging.{blank_room}
 use Rattle.dense_order.proofs.Fairness.{count_fits}
 use Rattle.dense_order.specs.Found.{Checked}
-use Rattle.merger.specs.Sections.{bases_at, spare_at}
+use Rattle.merger.specs.Sections.{spare_at}
 use Rattle.merger.specs.Steps.{Past, walk_of, Ends}
 use Rattle.merger.specs.Table.{starts, Bases}
 use Rattle.merger.specs.Walking.{Mapped, Charted, Roomy, Ample, Shelved, Walks, Begun, MappedIn}
@@ -58,8 +58,8 @@ module _ {limit : ℕ} {i : Input} {w : List ℕ} {n : ℕ} (past : Past limit i
   pub roomy : {w₁ : List ℕ} → length w₁ ≡ length w → Roomy i.nodes w₁ n
   roomy l = let e = summed in let a = fits.most_nodes in let b = fits.room in record { counted = counted; few = omega arith; room = omega arith }
 
-  -- w₁ is cleared, and w₂ has the bases
-  module _ {w₁ w₂ : List ℕ} (cleared : w₁ ≡ replicate (length w) 0) (based : Bases i.table w₁ w₂ n) where
+  -- w₁ is cleared
+  module _ {w₁ : List ℕ} (cleared : w₁ ≡ replicate (length w) 0) where
     zeros : (y : ℕ) → get_or w₁ y 0 ≡ 0
     zeros = let a = roomy {w₁ = w} refl in (blank_room {s = i.nodes} {w = w} {n = n} (record { counted = counted; few = a.few; room = a.room }) cleared).zeros
 
@@ -75,17 +75,8 @@ module _ {limit : ℕ} {i : Input} {w : List ℕ} {n : ℕ} (past : Past limit i
     near : (x : ℕ) → Memᴰ x (roots_of i) → x < n
     near x m = let k = within.starts x m in let e = summed in omega arith
 
-    -- the node at p is record number p with its forest's base
-    based_at : (p : ℕ) → p < n → at (graph i) p ≡ renumber (λ c. get_or w₂ (bases_at n + p) 0 + c) (at (nodes_of i.nodes) p)
-    unfolding graph forests_of
-    based_at p l = based.bases (nodes_of i.nodes) i.roots (length_nodes_of i.nodes ∙ sym counted) p l
-
-    alike : (p : ℕ) → p < length i.nodes / size → (is_external (at (graph i) p) ≡ is_external (at (nodes_of i.nodes) p)) × ((at (graph i) p).digest ≡ (at (nodes_of i.nodes) p).digest)
-    unfolding renumber is_external class
-    alike p l = rw (based_at p (omega arith)) (refl, refl)
-
-    -- it is cut into five parts
-    module _ {v u b h z : List ℕ} (parts : Parts w₂ v u b h z n) (long : length w₂ ≡ length w) where
+    -- it is cut into five parts, and b has the bases
+    module _ {v u b₀ b h z : List ℕ} (parts : Parts w₁ v u b₀ h z n) (long : length w₁ ≡ length w) (based : Bases i.table b) (wide : length b ≡ n) where
       pub ample : Ample i.nodes h
       ample = let a = roomy {w₁ = w} refl in let e = parts.holders in record { counted = e ∙ counted; few = rw e a.few }
 
@@ -93,24 +84,31 @@ module _ {limit : ℕ} {i : Input} {w : List ℕ} {n : ℕ} (past : Past limit i
       spare_long = let a = (roomy {w₁ = w} refl).room in let e = parts.holders in let l = parts_long parts in omega arith
 
       blank : (p : ℕ) → Dec (p < n) → get_or v p 0 ≡ 0
-      blank p (yes l) = sym (at_state parts p l) ∙ (based.rest p (λ k. absurd (omega arith)) ∙ zeros p)
+      blank p (yes l) = sym (at_state parts p l) ∙ zeros p
       blank p (no l) = get_or_past v p 0 (let e = parts.states in omega arith)
 
       spare_blank : (y : ℕ) → get_or z y 0 ≡ 0
-      spare_blank y = sym (at_spare parts y) ∙ (based.rest (spare_at n + y) (λ k. omega arith) ∙ zeros (spare_at n + y))
+      spare_blank y = sym (at_spare parts y) ∙ zeros (spare_at n + y)
+
+      -- the node at p is record number p with its forest's base
+      based_at : (p : ℕ) → p < n → at (graph i) p ≡ renumber (λ c. get_or b p 0 + c) (at (nodes_of i.nodes) p)
+      unfolding graph forests_of
+      based_at p l = based.bases (nodes_of i.nodes) i.roots (length_nodes_of i.nodes ∙ sym (wide ∙ counted)) p (omega arith)
+
+      alike : (p : ℕ) → p < length i.nodes / size → (is_external (at (graph i) p) ≡ is_external (at (nodes_of i.nodes) p)) × ((at (graph i) p).digest ≡ (at (nodes_of i.nodes) p).digest)
+      unfolding renumber is_external class
+      alike p l = rw (based_at p (omega arith)) (refl, refl)
 
       mapped : Mapped i.nodes b (graph i)
-      mapped =
-          let e = parts.bases in
-          record {
-            counted = e ∙ counted;
-            few = rw e (roomy {w₁ = w} refl).few;
-            long = counts ∙ sym e;
-            nodes = λ p l. rw (← at_base parts p (omega arith), ← at_node_lem i.nodes p (omega arith)) (based_at p (omega arith));
-            fit = λ p l. count_fits i.nodes good p (omega arith);
-            inside = λ p c m. let k = step_below _ _ _ within p c (next_step (graph i) p c m) in let y = summed in omega arith;
-            bare = proper_bare (graph i) (graph_each Proper proper_renumber i (records_proper i.nodes good));
-          }
+      mapped = record {
+        counted = wide ∙ counted;
+        few = rw wide (roomy {w₁ = w} refl).few;
+        long = counts ∙ sym wide;
+        nodes = λ p l. rw (← at_node_lem i.nodes p (omega arith)) (based_at p (omega arith));
+        fit = λ p l. count_fits i.nodes good p (omega arith);
+        inside = λ p c m. let k = step_below _ _ _ within p c (next_step (graph i) p c m) in let y = summed in omega arith;
+        bare = proper_bare (graph i) (graph_each Proper proper_renumber i (records_proper i.nodes good));
+      }
 
       -- the holders are sorted, r of them
       module _ {h' z' : List ℕ} {r : ℕ} (shelved : Shelved i.nodes h h' z z' r) where
@@ -119,15 +117,14 @@ module _ {limit : ℕ} {i : Input} {w : List ℕ} {n : ℕ} (past : Past limit i
 
         pub begun : Begun i.table i.nodes i.roots b (take r h') v u
         begun =
-            let e = parts.bases in
             record {
               graph = graph i;
               charted = charted;
-              tall = parts.states ∙ sym e;
-              wide = parts.sources ∙ sym e;
+              tall = parts.states ∙ sym wide;
+              wide = parts.sources ∙ sym wide;
               blank = λ p. blank p (dec_lt p n);
               long = fits.roots;
-              near = λ x m. rw e (near x (rw (roots_are i) m));
+              near = λ x m. rw wide (near x (rw (roots_are i) m));
             }
 
         -- the walk leaves the room w₃, and answers a
@@ -135,7 +132,6 @@ module _ {limit : ℕ} {i : Input} {w : List ℕ} {n : ℕ} (past : Past limit i
             (walks : (g : List Node) → Charted i.nodes b (take r h') g → Walks g v' u' (length b) [] (walk g limit (starts i.table i.roots)) a) where
           mapped_in : MappedIn i.nodes w₃ n (graph i)
           mapped_in =
-              let e = parts.bases in
               let m = mapped in
               let y = roomy {w₁ = w₃} long' in
               record {
@@ -145,7 +141,7 @@ module _ {limit : ℕ} {i : Input} {w : List ℕ} {n : ℕ} (past : Past limit i
                 long = counts;
                 nodes = λ p l. rw (at_base left p l) (m.nodes p (omega arith));
                 fit = λ p l. m.fit p (omega arith);
-                inside = λ p c k. rw (← e) (m.inside p c k);
+                inside = λ p c k. rw (← wide) (m.inside p c k);
                 bare = m.bare;
               }
 
@@ -156,7 +152,7 @@ module _ {limit : ℕ} {i : Input} {w : List ℕ} {n : ℕ} (past : Past limit i
               record {
                 answer = k.answer;
                 ended = λ t e.
-                    let c = rw parts.bases at (k.came t e) in
+                    let c = rw wide at (k.came t e) in
                     let f = walk_fine (graph i) n mapped_in.inside limit (roots_of i) t e near in
                     record {
                       mapped = mapped_in;

@@ -7,8 +7,6 @@ use Rattle.record.specs.declared.Row.{Row}
 use Rattle.forest.specs.Graph.{forests, joined, joined_roots, at}
 use Rattle.forest.specs.Lists.{sum}
 use Rattle.forest.specs.Merge.{most_forests}
-use Rattle.room.specs.Sections.{Out}
-use Rattle.merger.specs.Sections.{bases_at}
 use Rattle.merger.specs.declared.table.Cursor.{Cursor}
 
 -- how many nodes and how many roots the first i rows have
@@ -61,7 +59,6 @@ pub record AtRoot (t : List ℕ) (c : Cursor) (k : ℕ) : Type 0 where
   pub toward : ToRoot t c k
   pub high : k < c.roots
 
--- for each position the first position of its forest is written, and nothing else has changed
-pub record Bases (t w w' : List ℕ) (n : ℕ) : Type 0 where
-  pub bases : (ns : List Node) (rs : List ℕ) → length ns ≡ n → (p : ℕ) → p < n → at (joined (forests 0 (rows_of t) ns rs)) p ≡ renumber (λ c. get_or w' (bases_at n + p) 0 + c) (at ns p)
-  pub rest : (y : ℕ) → Out y (bases_at n) n → get_or w' y 0 ≡ get_or w y 0
+-- b has for each position the first position of its forest
+pub record Bases (t b : List ℕ) : Type 0 where
+  pub bases : (ns : List Node) (rs : List ℕ) → length ns ≡ length b → (p : ℕ) → p < length b → at (joined (forests 0 (rows_of t) ns rs)) p ≡ renumber (λ c. get_or b p 0 + c) (at ns p)

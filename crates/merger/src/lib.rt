@@ -25,9 +25,6 @@ pub const MOST_DEPTH: u32 = 4096;
 // The mark for none in an id list.
 pub const NO_ID: u32 = 4294967295;
 
-// The kind of externals.
-const EXTERNAL: u32 = 0;
-
 // The sections of the work room, of n words each: the state of each position from 0 on (0 unseen, 1 open, else 2 more than its new id), then
 // these, and the non-externals by digest behind the bases: the position that a merged id comes from, the first position of a position's
 // forest, the sort's spare section, the sources of merged nodes in their order, the place of a merged id in it, whether a new id is a root,
@@ -56,11 +53,11 @@ fn walked(
     ensures { Ends limit (record { table = table.now; nodes = nodes.now; roots = roots.now }) work.new n result }
 {
     room::clear(work);
-    table.write_bases(work, n);
     let (states, rest) = work.split_at_mut(n);
     let (sources, rest) = rest.split_at_mut(n);
     let (bases, rest) = rest.split_at_mut(n);
     let (holders, spare) = rest.split_at_mut(n);
+    table.write_bases(bases);
     let count = sort_holders(nodes, holders, spare);
     walk_roots(
         table,
@@ -74,7 +71,8 @@ fn walked(
     )
 }
 
-// Merges in the room and says how many nodes and roots the result has, unless a record is bad, a root or a child past the end, the walk stops, or the outputs are short.
+// Merges in the room and says how many nodes and roots the result has, unless a record is bad, a root or a child past the end, the walk
+// stops, or the outputs are short.
 fn merged(
     table: &[u8],
     nodes: &[u8],

@@ -3,11 +3,10 @@ ghost use Rattle.std.specs.Prelude.{◌≡◌, List, ℕ, ◌+◌, ◌*◌, ◌/
 ghost use Rattle.record.specs.Node.{size, row_size, nodes_of, rows_of};
 ghost use Rattle.record.specs.declared.Node.{Node};
 ghost use Rattle.forest.specs.Graph.{forests, far_root, far_child};
-ghost use Rattle.forest.specs.Lent.{work_words, most};
+ghost use Rattle.forest.specs.Lent.{most};
 ghost use Rattle.forest.specs.Merge.{node_sum, root_sum};
 ghost use Rattle.merger.specs.Table.{Legible, On, ToNode, ToRoot, AtNode, AtRoot, Bases};
 
-use crate::BASES;
 use std::marker::Model;
 
 // A table: it has no more rows than there may be forests.
@@ -76,7 +75,7 @@ impl Table<'_> {
     }
 
     // The place behind the row that has position p, from a place that is not past it: rows are passed until one reaches it, none is counted.
-    // It has its like for roots: the field that is held against the number is all that differs, and Rattle has no parameter for a field.
+    // It has its like for roots: the field that is compared is all that differs, and a closure for it would need a law in each contract.
     pub(crate) fn at_node(&self, from: Cursor, p: usize) -> Cursor
         requires to_node { ToNode self.now from p }
         requires p_bound { p < node_sum self.now }
@@ -135,15 +134,14 @@ impl Table<'_> {
     }
 
     // Writes for each position the position of the first node of its forest.
-    pub(crate) fn write_bases(&self, work: &mut [u32], n: usize)
-        requires n_value { (n ≡ node_sum self.now) × (n ≤ most) }
-        requires n_in_bounds { work_words * n ≤ length work.old }
-        ensures { Bases self.now work.old work.new n }
+    pub(crate) fn write_bases(&self, bases: &mut [u32])
+        requires { (length bases.old ≡ node_sum self.now) × (node_sum self.now ≤ most) }
+        ensures { Bases self.now bases.new }
     {
         let mut at = Cursor::start();
-        for p in 0..n {
+        for (p, base) in bases.iter_mut().enumerate() {
             at = self.at_node(at, p);
-            work[BASES * n + p] = at.base as u32;
+            *base = at.base as u32;
         }
     }
 }

@@ -4,29 +4,27 @@ use Rattle.merger.proofs.Charting.{summed, roomy, ample, spare_long, begun, ends
 use Rattle.merger.proofs.Parts.{cut, parts_long}
 use Rattle.merger.proofs.walked.Goals as goal
 
-pub write_bases-requires-clause-n_value : goal.write_bases-requires-clause-n_value
-write_bases-requires-clause-n_value c = (summed c.requires.past c.requires.n_value, (roomy c.requires.past c.requires.n_value c.clear.auto.work).few)
-
-pub write_bases-requires-clause-n_in_bounds : goal.write_bases-requires-clause-n_in_bounds
-write_bases-requires-clause-n_in_bounds c = (roomy c.requires.past c.requires.n_value c.clear.auto.work).room
-
 pub split_at_mut-states-requires : goal.split_at_mut-states-requires
-split_at_mut-states-requires c = let r = (roomy c.requires.past c.requires.n_value (c.write_bases.auto.work ∙ c.clear.auto.work)).room in omega arith
+split_at_mut-states-requires c = let r = (roomy c.requires.past c.requires.n_value c.clear.auto.work).room in omega arith
 
 pub split_at_mut-sources-requires : goal.split_at_mut-sources-requires
-split_at_mut-sources-requires c =
-    let r = (roomy c.requires.past c.requires.n_value (c.write_bases.auto.work ∙ c.clear.auto.work)).room in
-    omega (arith, c.split_at_mut-states.ensures.back_len)
+split_at_mut-sources-requires c = let r = (roomy c.requires.past c.requires.n_value c.clear.auto.work).room in omega (arith, c.split_at_mut-states.ensures.back_len)
 
 pub split_at_mut-bases-requires : goal.split_at_mut-bases-requires
 split_at_mut-bases-requires c =
-    let r = (roomy c.requires.past c.requires.n_value (c.write_bases.auto.work ∙ c.clear.auto.work)).room in
+    let r = (roomy c.requires.past c.requires.n_value c.clear.auto.work).room in
     omega (arith, c.split_at_mut-states.ensures.back_len, c.split_at_mut-sources.ensures.back_len)
 
 pub split_at_mut-holders-requires : goal.split_at_mut-holders-requires
 split_at_mut-holders-requires c =
-    let r = (roomy c.requires.past c.requires.n_value (c.write_bases.auto.work ∙ c.clear.auto.work)).room in
+    let r = (roomy c.requires.past c.requires.n_value c.clear.auto.work).room in
     omega (arith, c.split_at_mut-states.ensures.back_len, c.split_at_mut-sources.ensures.back_len, c.split_at_mut-bases.ensures.back_len)
+
+pub write_bases-requires : goal.write_bases-requires
+write_bases-requires c =
+    let e = summed c.requires.past c.requires.n_value in
+    let r = (roomy c.requires.past c.requires.n_value c.clear.auto.work).few in
+    (c.split_at_mut-bases.ensures.front_len ∙ e, omega arith)
 
 pub sort_holders-count-requires-clause-ample : goal.sort_holders-count-requires-clause-ample
 sort_holders-count-requires-clause-ample c =
@@ -35,7 +33,7 @@ sort_holders-count-requires-clause-ample c =
     let s = c.split_at_mut-bases.ensures in
     let t = c.split_at_mut-holders.ensures in
     let a = cut p.value q.value s.value t.value p.front_len q.front_len s.front_len t.front_len in
-    ample c.requires.past c.requires.n_value c.clear.ensures c.write_bases.ensures a (c.write_bases.auto.work ∙ c.clear.auto.work)
+    ample c.requires.past c.requires.n_value c.clear.ensures a c.clear.auto.work c.write_bases.ensures (c.write_bases.auto.bases ∙ s.front_len)
 
 pub sort_holders-count-requires-clause-spare_len : goal.sort_holders-count-requires-clause-spare_len
 sort_holders-count-requires-clause-spare_len c =
@@ -44,7 +42,7 @@ sort_holders-count-requires-clause-spare_len c =
     let s = c.split_at_mut-bases.ensures in
     let t = c.split_at_mut-holders.ensures in
     let a = cut p.value q.value s.value t.value p.front_len q.front_len s.front_len t.front_len in
-    spare_long c.requires.past c.requires.n_value c.clear.ensures c.write_bases.ensures a (c.write_bases.auto.work ∙ c.clear.auto.work)
+    spare_long c.requires.past c.requires.n_value c.clear.ensures a c.clear.auto.work c.write_bases.ensures (c.write_bases.auto.bases ∙ s.front_len)
 
 pub walk_roots-requires : goal.walk_roots-requires
 walk_roots-requires c =
@@ -53,7 +51,7 @@ walk_roots-requires c =
     let s = c.split_at_mut-bases.ensures in
     let t = c.split_at_mut-holders.ensures in
     let a = cut p.value q.value s.value t.value p.front_len q.front_len s.front_len t.front_len in
-    begun c.requires.past c.requires.n_value c.clear.ensures c.write_bases.ensures a (c.write_bases.auto.work ∙ c.clear.auto.work) c.sort_holders-count.ensures
+    begun c.requires.past c.requires.n_value c.clear.ensures a c.clear.auto.work c.write_bases.ensures (c.write_bases.auto.bases ∙ s.front_len) c.sort_holders-count.ensures
 
 pub returns : goal.returns
 returns c =
@@ -62,9 +60,10 @@ returns c =
     let s = c.split_at_mut-bases.ensures in
     let t = c.split_at_mut-holders.ensures in
     let a = cut p.value q.value s.value t.value p.front_len q.front_len s.front_len t.front_len in
-    let l = c.write_bases.auto.work ∙ c.clear.auto.work in
+    let l = c.clear.auto.work in
+    let e = c.write_bases.auto.bases ∙ s.front_len in
     let k = c.sort_holders-count in
     let v = c.walk_roots in
-    let b = cut refl refl refl refl (v.auto.states ∙ p.front_len) (v.auto.sources ∙ q.front_len) s.front_len (k.auto.list ∙ t.front_len) in
+    let b = cut refl refl refl refl (v.auto.states ∙ p.front_len) (v.auto.sources ∙ q.front_len) e (k.auto.list ∙ t.front_len) in
     let z = k.auto.spare in
-    ends c.requires.past c.requires.n_value c.clear.ensures c.write_bases.ensures a l k.ensures b (omega (arith, parts_long a, parts_long b, l)) v.ensures
+    ends c.requires.past c.requires.n_value c.clear.ensures a l c.write_bases.ensures e c.sort_holders-count.ensures b (omega (arith, parts_long a, parts_long b, l)) v.ensures

@@ -5,13 +5,13 @@ use Rattle.merger.proofs.table.Table.write_bases.Goals as goal
 pub loop-p-init : goal.loop-p-init
 loop-p-init c =
     let a = c.args in
-    (rw c.start-at.ensures (node_start a.self.now), based_start a.self.now a.work.now a.n)
+    (rw c.start-at.ensures (node_start a.self.now), based_start a.self.now a.bases.now)
 
 pub loop-p-preserved : goal.loop-p-preserved
 loop-p-preserved c =
     let l = c.loop-p in
     let a = c.at_node-at.ensures in
-    (node_next c.args.self.now _ l.p a, based_step l.invariant.1 _ a c.requires.n_value.0 c.loop-p-test.true c.requires.n_in_bounds)
+    (node_next c.args.self.now _ l.p a, based_step l.invariant.1 _ a c.requires.0 c.loop-p-test.true)
 
 pub returns : goal.returns
 returns c = based_end c.loop-p.invariant.1 c.loop-p-test.false
