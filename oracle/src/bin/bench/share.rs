@@ -11,7 +11,7 @@ use std::{
 const SEARCH: &str = "merger::merging::Walk::push";
 
 /// The merge's other functions, and what it calls: what else the samples show is not the merge.
-const MERGE: [&str; 4] = ["forest_merge", "open_node", "sort_part", "memset"];
+const MERGE: [&str; 4] = ["forest_merge", "open_node", "sort_halves", "memset"];
 
 /// The samples a second: many, because the search may leave only some thousandths of the time to the rest.
 pub const FINE: u32 = 19_997;
