@@ -20,6 +20,7 @@ fn list_class(nodes: &[u8], list: &mut [u32], class: Class) -> usize
     requires { Space nodes.now list.old }
     ensures { Members nodes.now list.old list.new class result }
 {
+    // What was kept so far, beside the loop's own number: the library has no loop that counts both.
     let mut count = 0;
     for p in 0..nodes.len() / record::SIZE {
         if record::class_of(record::kind_at(nodes, p)) != class {
@@ -237,9 +238,10 @@ pub(crate) fn keep_order(work: &mut [u32], n: usize)
     requires { (2 * n ≤ length work.old) × (n ≤ most) }
     ensures { Kept work.old work.new n n }
 {
-    for p in 0..n {
-        work[p] = p as u32;
-        work[n + p] = (p + 1) as u32;
+    let (order, marks) = work.split_at_mut(n);
+    for (p, id) in order.iter_mut().enumerate() {
+        *id = p as u32;
+        marks[p] = (p + 1) as u32;
     }
 }
 
