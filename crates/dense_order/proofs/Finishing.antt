@@ -36,7 +36,7 @@ use Rattle.sorting.proofs.Callers.{Both, both_fronts, front_span}
 use Rattle.sorting.proofs.Uses.{kept_listed}
 use Rattle.dense_order.specs.Kinds.{Ordered, of_class, Space, Members, Blank, Externals}
 use Rattle.dense_order.specs.Marks.{mark_of, Unmarked, Marked}
-use Rattle.dense_order.specs.State.{heads_at, links_at, Fair, Enlisted, Standing, Begun, Released, Fresh}
+use Rattle.dense_order.specs.State.{heads_at, links_at, Fair, Enlisted, Standing, Released, Fresh}
 use Rattle.dense_order.proofs.Opening.{enlisted_start, opens}
 use Rattle.dense_order.proofs.Gathering.{externals_class, blocks_class}
 
@@ -202,19 +202,11 @@ module _ {s w order marks heads counts rows links : List ℕ} {n begun : ℕ} (x
   pub nothing_enlisted : Enlisted s heads links counts rows (length s / size) 0
   nothing_enlisted = rw (← x.fair.counted) (enlisted_start x.fair k.heads_long links_long k.counts_long (let z = k.rows_long in omega arith) zero_heads zero_rows)
 
-  begun_is : take begun order ≡ begun_of (nodes_of s)
+  pub begun_is : take begun order ≡ begun_of (nodes_of s)
   begun_is = let l = k.order_long in let z = x.some in front_span order (marks ++ (heads ++ (counts ++ (rows ++ links)))) begun (omega arith) ∙ rw (← k.whole) x.first
 
-  begun_long : length (take begun order) ≡ begun
-  begun_long = let l = k.order_long in let z = x.some in omega (arith, length-take begun order)
-
-  -- what the functions on the sections make of them
-  module _ {hs ls cs rs : List ℕ} where
-    pub none_settled : Enlisted s hs ls cs rs (length s / size) (length s / size) → Standing s (take begun order) hs ls cs rs (length s / size) 0
-    none_settled e = opens e (take begun order) begun_is (let z = x.some in let y = x.fair.counted in let l = begun_long in omega arith)
-
-    pub all_settled : Standing s (take begun order) hs ls cs rs (length s / size) (length (take begun order)) → Begun s order hs ls cs rs (length s / size) begun
-    all_settled t = record { standing = (let z = begun_long in rw z at t); first = begun_is }
+  pub none_settled : {hs ls cs rs : List ℕ} → Enlisted s hs ls cs rs (length s / size) (length s / size) → Standing s (take begun order) hs ls cs rs (length s / size) 0
+  none_settled e = opens e (take begun order) begun_is (let z = x.some in let y = x.fair.counted in let l = k.order_long in omega (arith, length-take begun order))
 
   -- the sections when all but the marks have been written
   module _ {order' heads' counts' rows' links' : List ℕ} {filled : ℕ} (long : length order' ≡ length order) (r' : Released s order' heads' links' counts' rows' (length s / size) filled) where

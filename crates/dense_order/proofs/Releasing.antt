@@ -15,7 +15,7 @@ use Rattle.record.specs.Node.{nodes_of, is_internal, children}
 use Rattle.record.proofs.Nodes.{length_nodes_of}
 use Rattle.forest.specs.Graph.{at}
 use Rattle.forest.specs.Lists.{has, lowest}
-use Rattle.forest.specs.Order.{ids, ready, released, order}
+use Rattle.forest.specs.Order.{ids, ready, begun as begun_of, released, order}
 use Rattle.claims.specs.Distinct.{fresh, pigeonhole}
 use Rattle.claims.specs.Searches.{not_in, none_lowest, lowest_ids, lowest_agree}
 use Rattle.claims.specs.Sorts.{run_in}
@@ -32,6 +32,10 @@ pub record Releasing (s w hs ls cs rs : List ℕ) (n begun filled : ℕ) : Type 
 
 forest_counted : (s : List ℕ) (n : ℕ) → Fair s n → length (nodes_of s) ≡ n
 forest_counted s n f = length_nodes_of s ∙ sym f.counted
+
+-- all that begins the order is settled
+pub all_settled : {s w hs ls cs rs : List ℕ} {n k : ℕ} → k ≤ length w → take k w ≡ begun_of (nodes_of s) → Standing s (take k w) hs ls cs rs n (length (take k w)) → Begun s w hs ls cs rs n k
+all_settled {w = w} {k = k} h e t = let z : length (take k w) ≡ k = omega (arith, length-take k w) in record { standing = rw z at t; first = e }
 
 pub releasing_start : {s w hs ls cs rs : List ℕ} {n begun : ℕ} → length w ≡ n → Begun s w hs ls cs rs n begun → Releasing s w hs ls cs rs n begun begun
 unfolding order

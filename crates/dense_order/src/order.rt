@@ -1,7 +1,7 @@
 // The order of a forest's nodes: externals by digest, blocks by id, then internals, always the lowest whose children are all in the order.
 ghost use Rattle.std.specs.Prelude.{◌≡◌, true, ◌+◌, ◌*◌, ◌/◌, ◌<◌, ◌≤◌, length, take, get_or};
 ghost use Rattle.record.specs.Node.{size, nodes_of};
-ghost use Rattle.forest.specs.Order.{ready, order as order_of};
+ghost use Rattle.forest.specs.Order.{ready, begun as begun_of, order as order_of};
 ghost use Rattle.forest.specs.Lent.{work_words, most};
 ghost use Rattle.room.specs.Sections.{span};
 ghost use Rattle.ready.specs.Tree.{Tree};
@@ -13,7 +13,14 @@ use crate::deliver;
 use record::{Class, FIELDS};
 
 // The sections of the work room: order, marks, heads and counts of a word each id, two words of rows for the ready ids, and the links, one a
-// child field. A function takes the slices that it reads or writes and no struct of them: the types then say which of them stay.
+// child field. What a function writes it takes as slices: with a struct of `&mut`s each contract would have to say which of them stay.
+
+// The mentions of each child: where its chain begins, and the link from each to the one before it.
+#[derive(Clone, Copy)]
+struct Mentions<'a> {
+    heads: &'a [u32],
+    links: &'a [u32],
+}
 
 // Lists the ids of one class; says how many they are.
 fn list_class(nodes: &[u8], list: &mut [u32], class: Class) -> usize
@@ -63,39 +70,31 @@ fn resolve(counts: &mut [u32], rows: &mut [u32], p: usize)
 fn settle(
     nodes: &[u8],
     order: &[u32],
-    heads: &[u32],
-    links: &[u32],
+    mentions: Mentions,
     counts: &mut [u32],
     rows: &mut [u32],
     t: usize,
 )
-    requires standing { Standing nodes.now order.now heads.now links.now counts.old rows.old (length nodes.now / size) t }
+    requires standing { Standing nodes.now order.now mentions.heads.now mentions.links.now counts.old rows.old (length nodes.now / size) t }
     requires t_lt_filled { t < length order.now }
-    ensures { Standing nodes.now order.now heads.now links.now counts.new rows.new (length nodes.now / size) (t + 1) }
+    ensures { Standing nodes.now order.now mentions.entry.heads.now mentions.entry.links.now counts.new rows.new (length nodes.now / size) (t + 1) }
 {
-    let mut at = heads[order[t] as usize] as usize;
+    let mut at = mentions.heads[order[t] as usize] as usize;
     // A chain through the links, whose next place is read on the way: there is nothing to count or to go over.
     while 0 < at {
         let mention = at - 1;
         resolve(counts, rows, mention / FIELDS);
-        at = links[mention] as usize;
+        at = mentions.links[mention] as usize;
     }
 }
 
 // Settles all ids of the order.
-fn settle_all(
-    nodes: &[u8],
-    order: &[u32],
-    heads: &[u32],
-    links: &[u32],
-    counts: &mut [u32],
-    rows: &mut [u32],
-)
-    requires { Standing nodes.now order.now heads.now links.now counts.old rows.old (length nodes.now / size) 0 }
-    ensures { Standing nodes.now order.now heads.now links.now counts.new rows.new (length nodes.now / size) (length order.now) }
+fn settle_all(nodes: &[u8], order: &[u32], mentions: Mentions, counts: &mut [u32], rows: &mut [u32])
+    requires { Standing nodes.now order.now mentions.heads.now mentions.links.now counts.old rows.old (length nodes.now / size) 0 }
+    ensures { Standing nodes.now order.now mentions.entry.heads.now mentions.entry.links.now counts.new rows.new (length nodes.now / size) (length order.now) }
 {
     for t in 0..order.len() {
-        settle(nodes, order, heads, links, counts, rows, t);
+        settle(nodes, order, mentions, counts, rows, t);
     }
 }
 
@@ -103,34 +102,48 @@ fn settle_all(
 fn append(
     nodes: &[u8],
     order: &mut [u32],
-    heads: &[u32],
-    links: &[u32],
+    mentions: Mentions,
     counts: &mut [u32],
     rows: &mut [u32],
     filled: usize,
     p: usize,
 )
-    requires standing { Standing nodes.now (take filled order.old) heads.now links.now counts.old rows.old (length nodes.now / size) filled }
+    requires standing { Standing nodes.now (take filled order.old) mentions.heads.now mentions.links.now counts.old rows.old (length nodes.now / size) filled }
     requires order_long { length order.old ≡ length nodes.now / size }
     requires p_lt_n { (p < length order.old) × (filled < length order.old) }
     requires p_value { ready (nodes_of nodes.now) (take filled order.old) p ≡ true }
-    ensures { Appends nodes.now order.old order.new heads.now links.now counts.new rows.new (length nodes.now / size) filled p }
+    ensures { Appends nodes.now order.old order.new mentions.entry.heads.now mentions.entry.links.now counts.new rows.new (length nodes.now / size) filled p }
 {
     ready::remove(rows, counts.len(), p);
     order[filled] = p as u32;
-    settle(
-        nodes,
-        &order[..filled + 1],
-        heads,
-        links,
-        counts,
-        rows,
-        filled,
-    );
+    settle(nodes, &order[..filled + 1], mentions, counts, rows, filled);
 }
 
 // Takes ready ids into the order, always the lowest, until none is ready; says how many ids the order then has.
 fn release(
+    nodes: &[u8],
+    order: &mut [u32],
+    mentions: Mentions,
+    counts: &mut [u32],
+    rows: &mut [u32],
+    begun: usize,
+) -> usize
+    requires begun { Begun nodes.now order.old mentions.heads.now mentions.links.now counts.old rows.old (length nodes.now / size) begun }
+    requires order_long { length order.old ≡ length nodes.now / size }
+    ensures { Released nodes.now order.new mentions.entry.heads.now mentions.entry.links.now counts.new rows.new (length nodes.now / size) result }
+{
+    for filled in begun..order.len() {
+        let Some(p) = ready::lowest(rows, counts.len()) else {
+            return filled;
+        };
+        append(nodes, order, mentions, counts, rows, filled, p);
+    }
+    order.len()
+}
+
+// Settles the ids that begin the order and releases the internals; says how many ids the order then has.
+// It puts the mentions together itself: one that holds slices that it cut loses track of what its room becomes.
+fn settle_and_release(
     nodes: &[u8],
     order: &mut [u32],
     heads: &[u32],
@@ -139,17 +152,14 @@ fn release(
     rows: &mut [u32],
     begun: usize,
 ) -> usize
-    requires begun { Begun nodes.now order.old heads.now links.now counts.old rows.old (length nodes.now / size) begun }
+    requires standing { Standing nodes.now (take begun order.old) heads.now links.now counts.old rows.old (length nodes.now / size) 0 }
+    requires begun { (begun ≤ length order.old) × (take begun order.old ≡ begun_of (nodes_of nodes.now)) }
     requires order_long { length order.old ≡ length nodes.now / size }
     ensures { Released nodes.now order.new heads.now links.now counts.new rows.new (length nodes.now / size) result }
 {
-    for filled in begun..order.len() {
-        let Some(p) = ready::lowest(rows, counts.len()) else {
-            return filled;
-        };
-        append(nodes, order, heads, links, counts, rows, filled, p);
-    }
-    order.len()
+    let mentions = Mentions { heads, links };
+    settle_all(nodes, &order[..begun], mentions, counts, rows);
+    release(nodes, order, mentions, counts, rows, begun)
 }
 
 // Links the mentions that p makes, each to the one before it that names the same child; says how many they are.
@@ -229,8 +239,7 @@ fn complete(nodes: &[u8], work: &mut [u32], n: usize, begun: usize) -> usize
     let (counts, behind) = behind.split_at_mut(n);
     let (rows, links) = behind.split_at_mut(2 * n);
     enlist_all(nodes, heads, links, counts, rows);
-    settle_all(nodes, &order[..begun], heads, links, counts, rows);
-    release(nodes, order, heads, links, counts, rows, begun)
+    settle_and_release(nodes, order, heads, links, counts, rows, begun)
 }
 
 // Puts the n ids into their own order and marks the place of each; leaves every other word alone.

@@ -1,5 +1,6 @@
 use mathlib.Core.Path.{◌∙◌}
-use Rattle.dense_order.proofs.Finishing.{Cut, cut_is, nothing_enlisted, none_settled, all_settled, completes, complete_is}
+use native.Mathlib.Omega.{arith}
+use Rattle.dense_order.proofs.Finishing.{Cut, cut_is, nothing_enlisted, begun_is, none_settled, completes, complete_is}
 use Rattle.dense_order.proofs.order.complete.Goals as goal
 use Rattle.dense_order.proofs.order.complete.Goals.{After-split_at_mut-rows}
 
@@ -17,15 +18,16 @@ cut_of c =
 pub enlist_all-requires : goal.enlist_all-requires
 enlist_all-requires c = nothing_enlisted c.requires (cut_of (goal.at.enlist_all-requires c).After-split_at_mut-rows)
 
-pub settle_all-requires : goal.settle_all-requires
-settle_all-requires c = none_settled c.requires (cut_of (goal.at.settle_all-requires c).After-split_at_mut-rows) c.enlist_all.ensures
-
-pub release-requires : goal.release-requires
-release-requires c =
-    let k = cut_of (goal.at.release-requires c).After-split_at_mut-rows in
-    record { begun = all_settled c.requires k c.settle_all.ensures; order_long = k.order_long ∙ c.requires.fair.counted }
+pub settle_and_release-requires : goal.settle_and_release-requires
+settle_and_release-requires c =
+    let k = cut_of (goal.at.settle_and_release-requires c).After-split_at_mut-rows in
+    record {
+      standing = none_settled c.requires k c.enlist_all.ensures;
+      begun = (let z = c.requires.some in let l = k.order_long in omega arith, begun_is c.requires k);
+      order_long = k.order_long ∙ c.requires.fair.counted;
+    }
 
 pub returns : goal.returns
 returns c =
     let k = cut_of (goal.at.returns c).After-split_at_mut-rows in
-    record { unmarked = completes c.requires k c.release.auto.order c.release.ensures; whole = complete_is c.requires k c.release.auto.order c.release.ensures }
+    record { unmarked = completes c.requires k c.settle_and_release.auto.order c.settle_and_release.ensures; whole = complete_is c.requires k c.settle_and_release.auto.order c.settle_and_release.ensures }

@@ -6,7 +6,7 @@ use Rattle.dense_order.proofs.Settling.{Next, next_is, settling_start, settling_
 use Rattle.dense_order.proofs.order.settle.Goals as goal
 use Rattle.dense_order.proofs.order.settle.Goals.{Start}
 
-next_of : (s : Start) → Next s.args.order.now s.args.heads.now (length s.args.nodes.now / size) s.args.t
+next_of : (s : Start) → Next s.args.order.now s.args.mentions.heads.now (length s.args.nodes.now / size) s.args.t
 next_of s = next_is s.requires.standing s.requires.t_lt_filled
 
 pub loop-at-init : goal.loop-at-init
