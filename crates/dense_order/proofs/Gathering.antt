@@ -24,15 +24,15 @@ use Rattle.sorting.proofs.Uses.{at_node_lem, externals_is}
 use Rattle.dense_order.specs.Kinds.{of_class, Space, Members}
 
 -- all ids are looked at
-pub gathered : {s w₀ w : List ℕ} {n to count p : ℕ} (k : Class) → Space s w₀ n to → Keeping (λ q. eqb (rank (class (node_at s q))) (rank k)) (run 0 n) w₀ w to count p → n ≤ p → Members s w₀ w to k count
+pub gathered : {s w₀ w : List ℕ} {count p : ℕ} (k : Class) → Space s w₀ → Keeping (λ q. eqb (rank (class (node_at s q))) (rank k)) (run 0 (length s / size)) w₀ w 0 count p → length s / size ≤ p → Members s w₀ w k count
 unfolding of_class
-gathered {n = n} k a m h =
-    let l = length_run 0 n in
+gathered {s} k a m h =
+    let l = length_run 0 (length s / size) in
     let f = a.fits in
     record {
-      count = rw (← a.counted) (keeping_count m (omega arith) (omega arith));
-      few = omega (arith, m.some, m.within, a.counted);
-      puts = rw (← a.counted) (keeping_end m (omega arith) (omega arith));
+      count = keeping_count m (omega arith) (omega arith);
+      few = omega (arith, m.some, m.within);
+      puts = keeping_end m (omega arith) (omega arith);
     }
 
 -- EXTERNALS, THEN BLOCKS --------------------------------------------------------------------------

@@ -1,14 +1,15 @@
 -- Laws of a forest in dense order: its own order is the canonical one.
 -- Assumes nothing.
-use Prim.Native.Nat.{ℕ, suc, ◌+◌, ◌*◌, ◌/◌, ◌<◌, ◌≤◌}
+use Prim.Native.Nat.{ℕ, suc, ◌+◌, ◌-◌, ◌*◌, ◌/◌, ◌<◌, ◌≤◌}
 use mathlib.Core.Path.{◌≡◌, refl, ap, sym, ◌∙◌}
-use mathlib.Core.List.{List}
+use mathlib.Core.List.{List, ◌++◌}
 use Rattle.std.specs.Prelude.{None, Ok}
 use native.Mathlib.Decide.{ℕ_discrete}
 use native.Mathlib.Omega.{arith}
 use borrow.Author.Tests.{eq-eqb, ne_eqb}
 use lib.Dec.{eqb}
-use lib.ListN.{length, set, get_or, length-set}
+use lib.ListN.{length, set, get_or, length-set, length-append}
+use Rattle.std.proofs.lemmas.List.{set-append_left, set-append_right}
 use lib.Seq.{get_or-set_same, get_or-set_other, ext_get_or}
 use Rattle.record.specs.Lists.{run}
 use Rattle.record.specs.Node.{size, nodes_of}
@@ -53,6 +54,12 @@ kept_next {w} {v} {n} {k} r h l =
           get_or-set_other (set v k k) (n + k) y (k + 1) 0 (λ z. omega (arith, b (omega arith)))
           ∙ (get_or-set_other v k y k 0 (λ z. omega (arith, a (omega arith))) ∙ r.rest y (λ z. omega (arith, a (omega arith))) (λ z. omega (arith, b (omega arith))));
     }
+
+-- the same of the order a and the words m behind it
+pub kept_both : {w : List ℕ} (a m : List ℕ) {n k : ℕ} → Kept w (a ++ m) n k → length a ≡ n → k < n → n ≤ length m → Kept w (set a k k ++ set m k (k + 1)) n (k + 1)
+kept_both a m {n} {k} r l h f =
+    let z : n + k - n ≡ k = omega arith in
+    rw (set-append_left a m k k (omega arith), set-append_right (set a k k) m n (n + k) (k + 1) (length-set a k k ∙ l) (omega arith), z) at (kept_next r h (omega (arith, length-append a m)))
 
 pub kept_all : {w v : List ℕ} {n k : ℕ} → k ≤ n → n ≤ k → Kept w v n k → Kept w v n n
 kept_all {w} {v} {n} {k} a b r = let z : k ≡ n = omega arith in rw z at r

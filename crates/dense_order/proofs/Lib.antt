@@ -5,7 +5,6 @@ pub mod Last
 pub mod Faults
 pub mod Refusals
 pub mod Linking
-pub mod Rows
 pub mod Counting
 pub mod Settling
 pub mod Appending

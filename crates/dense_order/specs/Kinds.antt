@@ -14,17 +14,16 @@ use Rattle.dense_order.specs.Marks.{mark_of}
 unfoldable pub of_class : List ℕ → Class → List ℕ
 of_class s k = keep (λ p. eqb (rank (class (node_at s p))) (rank k)) (run 0 (length s / size))
 
--- room for n ids from place `to` on
-pub record Space (s w : List ℕ) (n to : ℕ) : Type 0 where
-  pub counted : n ≡ length s / size
-  pub few : n ≤ most
-  pub fits : to + n ≤ length w
+-- room for the ids of all records
+pub record Space (s w : List ℕ) : Type 0 where
+  pub few : length s / size ≤ most
+  pub fits : length s / size ≤ length w
 
--- the r ids of class k are listed from place `to` on, and nothing else has changed
-pub record Members (s w w' : List ℕ) (to : ℕ) (k : Class) (r : ℕ) : Type 0 where
+-- the r ids of class k are listed, and nothing behind them has changed
+pub record Members (s w w' : List ℕ) (k : Class) (r : ℕ) : Type 0 where
   pub count : r ≡ length (of_class s k)
   pub few : r ≤ length s / size
-  pub puts : Puts (of_class s k) w w' to r
+  pub puts : Puts (of_class s k) w w' 0 r
 
 -- a room of zeros for a forest of n nodes
 pub record Blank (s w : List ℕ) (n : ℕ) : Type 0 where

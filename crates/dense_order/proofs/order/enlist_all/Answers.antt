@@ -1,18 +1,17 @@
-use mathlib.Core.Path.{refl, ◌∙◌}
 use native.Mathlib.Omega.{arith}
-use Rattle.dense_order.proofs.Opening.{enlisted_start, enlisted_all, opens}
+use Rattle.dense_order.proofs.Opening.{enlisted_all}
 use Rattle.dense_order.proofs.order.enlist_all.Goals as goal
 
 pub loop-p-init : goal.loop-p-init
-loop-p-init c = (omega arith, refl, (λ y h. refl), enlisted_start c.requires)
+loop-p-init c = c.requires
+
+pub enlist-requires-clause-enlisted : goal.enlist-requires-clause-enlisted
+enlist-requires-clause-enlisted c = c.loop-p.invariant
 
 pub loop-p-preserved : goal.loop-p-preserved
-loop-p-preserved c =
-    let l = c.loop-p.invariant in
-    let e = c.enlist in
-    (omega arith, e.auto.work ∙ l.1, (λ y h. e.ensures.rest y h ∙ l.2 y h), e.ensures.enlisted)
+loop-p-preserved c = c.enlist.ensures
 
 pub returns : goal.returns
 returns c =
-    let l = c.loop-p.invariant in
-    opens c.requires l.1 l.2 (enlisted_all l.3 c.loop-p-test.false l.0)
+    let n = c.requires.long in
+    enlisted_all c.loop-p.invariant (omega (arith, c.loop-p-test.false)) (omega (arith, c.loop-p.auto.p-end))

@@ -8,11 +8,11 @@ pub sort_by_digest-requires : goal.sort_by_digest-requires
 sort_by_digest-requires c =
     let k = c.list_class-count in
     let e = c.split_at_mut-front.ensures in
-    spared_externals _ _ c.requires k.auto.work k.ensures e.value e.front_len
+    spared_externals _ _ c.requires k.auto.list k.ensures e.value e.front_len
 
 pub returns : goal.returns
 returns c =
     let k = c.list_class-count in
     let e = c.split_at_mut-front.ensures in
     let t = c.sort_by_digest in
-    externals_listed c.requires k.ensures (sorted_externals _ _ c.requires k.auto.work k.ensures e.value e.front_len t.ensures.sorted t.ensures.spared_zero t.auto.list)
+    externals_listed c.requires k.ensures (sorted_externals _ _ c.requires k.auto.list k.ensures e.value e.front_len t.ensures.sorted t.ensures.spared_zero t.auto.list)

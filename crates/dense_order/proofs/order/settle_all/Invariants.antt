@@ -1,7 +1,8 @@
-use mathlib.Core.Path.{◌≡◌}
+use Prim.Native.Nat.{◌/◌}
 use lib.ListN.{length}
-use Rattle.dense_order.specs.State.{Settles}
+use Rattle.record.specs.Node.{size}
+use Rattle.dense_order.specs.State.{Standing}
 use Rattle.dense_order.proofs.order.settle_all.Given as goal
 
 abbrev pub invariant-loop-t : goal.invariant-loop-t
-invariant-loop-t l = (length l.work ≡ length l.initial.work) × Settles l.nodes l.initial.work l.work l.n l.filled l.t
+invariant-loop-t l = Standing l.nodes l.order l.mentions.heads.now l.mentions.links.now l.counts l.rows (length l.nodes / size) l.t
