@@ -11,7 +11,7 @@ use lib.Dec.{ltb}
 use borrow.Author.Tests.{eqb-true, lt-ltb, le-ltb, eq-eqb}
 use lib.ListN.{length, take, get_or, set, length-take, length-set}
 use lib.Seq.{get_or-set_same, get_or-set_other}
-use Rattle.record.specs.Node.{fields, size, node_at, nodes_of, children}
+use Rattle.record.specs.Node.{fields, node_at, nodes_of, children}
 use Rattle.record.specs.declared.Node.{Node}
 use Rattle.record.proofs.Basics.{clash, both_true}
 use Rattle.record.proofs.Nodes.{full_read}
@@ -186,6 +186,3 @@ module _ {s hs ls : List ℕ} {n p : ℕ} {node : Node} (a : Fair s n) (h : p < 
       let k : node.count ≤ j = (let z = kids_long in omega arith) in
       let q : (node_at s p).count ≤ j = rw e at k in
       rw e (chaining_end a h c q)
-
-pub record_inside : {s : List ℕ} {n p : ℕ} → Fair s n → p < n → size * p + size ≤ length s
-record_inside f h = let z = f.counted in omega arith

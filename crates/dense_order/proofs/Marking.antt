@@ -5,7 +5,7 @@ use mathlib.Core.Path.{◌≡◌, refl, sym, ◌∙◌, ap, subst}
 use mathlib.Core.Bool.{Bool, true, false}
 use mathlib.Core.List.{List, [], ◌∷◌, ◌++◌, Memᴰ}
 use mathlib.Core.Logic.{◌≢◌}
-use Rattle.std.specs.Prelude.{Some, None}
+use Rattle.std.specs.Prelude.{Some}
 use native.Mathlib.Decide.{ℕ_discrete, dec_lt}
 use native.Mathlib.Omega.{arith}
 use native.Mathlib.Numerals.{add-one}
@@ -17,8 +17,7 @@ use Rattle.std.proofs.lemmas.List.{get_or-append-add, take-append-drop}
 use Rattle.record.specs.Lists.{run}
 use Rattle.forest.specs.Lists.{here_or, lowest}
 use Rattle.claims.specs.Distinct.{Distinct, fresh}
-use Rattle.claims.specs.Searches.{none_lowest, lowest_at, get_d_mem}
-use Rattle.claims.specs.Sorts.{run_in}
+use Rattle.claims.specs.Searches.{get_d_mem}
 use Rattle.room.specs.Sections.{span}
 use Rattle.dense_order.specs.Marks.{mark_of, Unmarked, Marked}
 
@@ -152,26 +151,3 @@ marks_lowest t w n h =
     let d : 2 * n - n ≡ n = omega arith in
     let e : n ≡ n + 0 = omega arith in
     rw d (subst (λ (k : ℕ). lowest t (take n (drop k w)) ≡ lowest (λ p. t (get_or w (n + p) 0)) (run 0 n)) (sym e) (words_lowest t w n 0 n (omega arith)))
-
--- A SEARCH THAT COUNTS ------------------------------------------------------------------------------
-
--- the test fails at each of the first k numbers
-pub record Failing (t : ℕ → Bool) (n k : ℕ) : Type 0 where
-  pub within : k ≤ n
-  pub fails : (x : ℕ) → x < k → t x ≡ false
-
-module _ {t : ℕ → Bool} {n : ℕ} where
-  pub failing_start : Failing t n 0
-  failing_start = record { within = omega arith; fails = λ x h. absurd (omega arith) }
-
-  pub failing_step : {k : ℕ} → Failing t n k → k < n → t k ≡ false → Failing t n (k + 1)
-  failing_step {k} r h e = record {
-    within = omega arith;
-    fails = λ x b. elim (ℕ_discrete x k) [ yes q ↦ rw q e | no q ↦ r.fails x (omega arith) ];
-  }
-
-  pub failing_found : {k : ℕ} → Failing t n k → k < n → t k ≡ true → lowest t (run 0 n) ≡ Some k
-  failing_found {k} r h e = let z : 0 + k ≡ k = omega arith in lowest_at t 0 n k (λ x b. r.fails x (omega arith)) (rw z e) h
-
-  pub failing_end : {k : ℕ} → Failing t n k → n ≤ k → lowest t (run 0 n) ≡ None
-  failing_end {k} r h = none_lowest t (run 0 n) (λ x m. let (a, b) = run_in 0 n x m in r.fails x (omega arith))

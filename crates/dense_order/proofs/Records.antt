@@ -5,7 +5,7 @@ use mathlib.Core.Path.{◌≡◌, refl}
 use mathlib.Core.List.{List, [], ◌∷◌, ◌++◌, map, map-append, append-nil, append_assoc, Memᴰ}
 use native.Mathlib.Omega.{arith}
 use native.Mathlib.Numerals.{add-one}
-use lib.ListN.{length, take, drop, get_or, length-append, length-drop, length-take, drop_of_length-le}
+use lib.ListN.{length, take, drop, get_or, length-append, length-take}
 use lib.Seq.{get_or-take, take_all, take-suc, take_at, drop-append-add, drop-drop, length-take-le}
 use Rattle.record.specs.Lists.{over, flat}
 use Rattle.record.specs.Node.{fields, size, node_at, node_bytes, children, renumber}
@@ -44,9 +44,6 @@ module _ {g : ℕ → Node} {ps out₀ out : List ℕ} {k : ℕ} (full : (p : �
   front_long : length (flat node_bytes (map g (take k ps))) ≡ size * k
   front_long = rw (records_long g full (take k ps), length-take-le k ps r.within) refl
 
-  pub wrote_long : length out ≡ length out₀
-  wrote_long = rw r.held (simp (length-append, front_long, length-drop) (let a = r.room in let b = r.within in omega arith))
-
   pub wrote_step : {out₁ : List ℕ} → k < length ps → out₁ ≡ over out (size * k) (node_bytes (g (get_or ps k 0))) → Wrote g ps out₀ out₁ (k + 1)
   unfolding flat
   wrote_step h e =
@@ -66,9 +63,6 @@ module _ {g : ℕ → Node} {ps out₀ out : List ℕ} {k : ℕ} (full : (p : �
       let e : k ≡ length ps = omega arith in
       let l : 0 + length (flat node_bytes (map g ps)) ≡ size * k = omega (arith, records_long g full ps) in
       rw (r.held, take_all k ps h, l)
-
-  wrote_end : length ps ≤ k → length out₀ ≡ size * length ps → out ≡ flat node_bytes (map g ps)
-  wrote_end h a = let l : length out₀ ≤ size * k = omega arith in rw (r.held, take_all k ps h, drop_of_length-le out₀ l, append-nil)
 
 -- THE NODES IN THEIR ORDER ------------------------------------------------------------------------
 
@@ -100,12 +94,6 @@ module _ {s o m out₀ : List ℕ} (b : Writable s o m out₀) where
         rw e (f, λ j l. b.placed (get_or o k 0) i _ (child_in (node_at s (get_or o k 0)) j l (omega (arith, f, (full_read s (get_or o k 0)).kids_long))))
 
   module _ {out : List ℕ} {k : ℕ} (r : Wrote (moved s m) o out₀ out k) where
-    pub moving_long : length out ≡ length out₀
-    moving_long = wrote_long (moved_full s m) r
-
     pub moving_step : {out₁ : List ℕ} (node new : Node) → k < length o → node ≡ node_at s (get_or o k 0) → new ≡ renumber (new_id m) node → out₁ ≡ over out (size * k) (node_bytes new)
         → Wrote (moved s m) o out₀ out₁ (k + 1)
     moving_step node new h e f q = wrote_step (moved_full s m) r h (rw (q, f, e))
-
-    pub moving_end : length o ≤ k → out ≡ flat node_bytes (map (moved s m) o)
-    moving_end h = wrote_end (moved_full s m) r h b.room

@@ -71,9 +71,6 @@ module _ {s hs ls cs₀ rs₀ : List ℕ} {n : ℕ} {o d : List ℕ} (q : ℕ) (
     pub parent_few : (x - 1) / fields < n
     parent_few = let h = parent_below (nodes_of s) ((x - 1) / fields) q (names_child (nodes_of s) q (x - 1) here) in let k = length_nodes_of s in let c = a.chained.fair.counted in omega arith
 
-    pub link_there : x - 1 < length ls
-    link_there = let r = i.reach in let z = a.chained.links_long in omega arith
-
     own : still (nodes_of s) q x ((x - 1) / fields) ≡ suc (still (nodes_of s) q (x - 1) ((x - 1) / fields))
     own = let z : x ≡ suc (x - 1) = omega arith in ap (λ k. still (nodes_of s) q k ((x - 1) / fields)) z ∙ still_own (nodes_of s) q (x - 1) here
 

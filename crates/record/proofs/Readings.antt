@@ -16,9 +16,6 @@ pub record Reading (k n : ℕ) (s : List ℕ) (at : ℕ) (d : List ℕ) (i : ℕ
   pub read : numbers k n s at ≡ take i d ++ numbers k (n - i) s (at + k * i)
 
 module _ (k n : ℕ) (s : List ℕ) (at : ℕ) (d : List ℕ) where
-  pub reading_start : length d ≡ n → Reading k n s at d 0
-  reading_start h = record { within = omega arith; room = h; read = let e : n - 0 ≡ n = omega arith in let p : at + k * 0 ≡ at = omega arith in rw (e, p) }
-
   module _ (i : ℕ) (r : Reading k n s at d i) where
     pub reading_step : (x p : ℕ) → i < n → p ≡ at + k * i → x ≡ number k s p → Reading k n s at (set d i x) (i + 1)
     unfolding numbers

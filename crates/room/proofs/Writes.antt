@@ -1,7 +1,7 @@
 -- Laws of what is written into a section: word by word, and that it says what the whole list is.
 -- Assumes nothing.
 use Prim.Native.Nat.{ℕ, ◌+◌, ◌-◌, ◌<◌, ◌≤◌}
-use mathlib.Core.Path.{◌≡◌, refl, sym, ◌∙◌, ap}
+use mathlib.Core.Path.{◌≡◌, sym, ◌∙◌, ap}
 use mathlib.Core.List.{List, append_assoc}
 use native.Mathlib.Omega.{arith}
 use native.Mathlib.Decide.{dec_lt}
@@ -11,16 +11,11 @@ use borrow.Rule.Slice.PartMut.{put_mid}
 use Rattle.std.proofs.lemmas.Slice.{between-put_mid, take-put_mid_below, drop-put_mid}
 use lib.Seq.{paste, drop-drop, get_or-take, get_or-drop, get_or-set_other, take-suc, take_all}
 use Rattle.room.specs.Sections.{span, Out, Puts}
-use Rattle.room.proofs.Spans.{span_at, span_empty, span_set}
+use Rattle.room.proofs.Spans.{span_at, span_set}
 
 -- what stands at place p of a list, by its place in a section
 pub section_place : (w : List ℕ) (a e p : ℕ) → a ≤ p → p < e → get_or (span w a e) (p - a) 0 ≡ get_or w p 0
 section_place w a e p h k = let z : a + (p - a) ≡ p = omega arith in span_at w a e (p - a) (omega arith) ∙ ap (λ (i : ℕ). get_or w i 0) z
-
--- sections that hold the same hold the same at each place
-pub section_at : (a b : List ℕ) (at n p : ℕ) → span a at (at + n) ≡ span b at (at + n) → at ≤ p → p < at + n → get_or a p 0 ≡ get_or b p 0
-section_at a b at n p e h k =
-    sym (section_place a at (at + n) p h k) ∙ (ap (λ (m : List ℕ). get_or m (p - at) 0) e ∙ section_place b at (at + n) p h k)
 
 -- the k words from `to` on are replaced by as many words
 pub puts_mid : (l w : List ℕ) (to n k : ℕ) → k ≡ n → length l ≡ n → to + n ≤ length w → Puts l w (put_mid to k w l) to n
@@ -48,9 +43,6 @@ pub record Putting (l w₀ w : List ℕ) (to n i : ℕ) : Type 0 where
   pub long : length w ≡ length w₀
   pub put : span w to (to + i) ≡ take i l
   pub rest : (p : ℕ) → Out p to i → get_or w p 0 ≡ get_or w₀ p 0
-
-pub putting_start : {l w : List ℕ} {to n : ℕ} → length l ≡ n → to + n ≤ length w → Putting l w w to n 0
-putting_start {l} {w} {to} e h = record { whole = e; fits = h; within = omega arith; long = refl; put = span_empty w to (to + 0) (omega arith); rest = λ p o. refl }
 
 module _ {l w₀ w : List ℕ} {to n i : ℕ} (r : Putting l w₀ w to n i) where
   pub putting_step : (v : ℕ) → i < n → v ≡ get_or l i 0 → Putting l w₀ (set w (to + i) v) to n (i + 1)
