@@ -1,4 +1,4 @@
-// The functions of `abi` under their names in C: this crate is the static library.
+// The functions of `abi` under their names in C: this crate is the static library. An export is a function of its own.
 #![tactic(auto)]
 
 ghost use Rattle.std.specs.Prelude.{◌≡◌, []};

@@ -1,4 +1,5 @@
 // Runs the cases on standard input, a line each: lends marked buffers, compares the reply and every buffer afterwards, counts.
+// Each program that calls it is a crate, as `rt` has it: its input and output stand in files beside it.
 // A line `= validate`, `= canonicalize` or `= merge` says what the cases below it call. A line that begins with # is a remark.
 #![tactic(auto)]
 

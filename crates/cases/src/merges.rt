@@ -68,6 +68,7 @@ impl Forests {
             root_count: 0,
         };
         let mut text = Section::Lent.of(case);
+        // How far a forest goes is known behind it: there is no list to go over.
         while !text.is_empty() {
             forests.read(text);
             text = next_forest(text);

@@ -6,7 +6,7 @@ ghost use Rattle.record.specs.Node.{size};
 
 use record::Node;
 
-// The kinds of externals and blocks, and that of an internal that gives none.
+// The kinds of externals and blocks, and that of an internal that gives none: numbers, as a record has them.
 const EXTERNAL: u32 = 0;
 
 const BLOCK: u32 = 1;
@@ -169,7 +169,7 @@ impl Cursor<'_> {
         }
     }
 
-    // The node that a letter and what stands behind it say.
+    // The node that a letter and what stands behind it say. The letter is the text's own: it is taken apart here and nowhere else.
     fn node(&mut self, letter: u8) -> Node {
         match letter {
             b'E' => self.leaf(EXTERNAL),

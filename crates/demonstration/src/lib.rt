@@ -1,4 +1,5 @@
 // The demonstration: merges the forests in the files `table`, `nodes` and `roots`, and prints the result.
+// Each program that runs it is a crate, as `rt` has it: its folder and its output stand in files beside it.
 #![tactic(auto)]
 
 use forest::Reply;

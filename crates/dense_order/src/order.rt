@@ -13,7 +13,9 @@ use crate::deliver;
 use record::{Class, FIELDS};
 
 // The sections of the work room: order, marks, heads and counts of a word each id, two words of rows for the ready ids, and the links, one a
-// child field. What a function writes it takes as slices: with a struct of `&mut`s each contract would have to say which of them stay.
+// child field. They are lent as words, so marks, heads and links are numbers, and 0 is none.
+// What a function writes it takes as slices: with a struct of `&mut`s each contract would have to say which of them stay.
+// Where the whole room is handed on, `n` goes along: not all are lent the nodes, and a division in each call costs time.
 
 // The mentions of each child: where its chain begins, and the link from each to the one before it.
 #[derive(Clone, Copy)]
@@ -27,7 +29,7 @@ fn list_class(nodes: &[u8], list: &mut [u32], class: Class) -> usize
     requires { Space nodes.now list.old }
     ensures { Members nodes.now list.old list.new class result }
 {
-    // What was kept so far, beside the loop's own number: the library has no loop that counts both.
+    // A chain of `filter` and `zip` would write the same, but not say how many it writes.
     let mut count = 0;
     for p in 0..nodes.len() / record::SIZE {
         if record::class_of(record::kind_at(nodes, p)) != class {

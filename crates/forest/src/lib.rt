@@ -4,7 +4,7 @@
 ghost use Rattle.std.specs.Prelude.{◌≡◌};
 ghost use Rattle.forest.specs.Reply.{row as row_of, told};
 
-// The answer of every entry point.
+// The answer of every entry point: document 01 has acceptance in the same table as the refusals, so it is no `Result`.
 #[derive(Clone, Copy, PartialEq, Eq)]
 pub enum Reply {
     Accepted(u64, u64),

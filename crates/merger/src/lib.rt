@@ -22,13 +22,13 @@ pub const MOST_FORESTS: usize = 1024;
 
 pub const MOST_DEPTH: u32 = 4096;
 
-// The mark for none in an id list.
+// The mark for none in an id list, which is lent as words.
 pub const NO_ID: u32 = 4294967295;
 
 // The sections of the work room, of n words each: the state of each position from 0 on (0 unseen, 1 open, else 2 more than its new id), then
 // these, and the non-externals by digest behind the bases: the position that a merged id comes from, the first position of a position's
 // forest, the sort's spare section, the sources of merged nodes in their order, the place of a merged id in it, whether a new id is a root,
-// the new roots.
+// the new roots. They are lent as words, so states and marks are numbers.
 const SOURCES: usize = 1;
 
 const BASES: usize = 2;

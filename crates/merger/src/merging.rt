@@ -33,7 +33,7 @@ pub(crate) fn merged_node(nodes: &[u8], bases: &[u32], states: &[u32], p: usize)
     record::renumbered(record::node_at(nodes, p), child_id)
 }
 
-// Whether two nodes have the same children.
+// Whether two nodes have the same children. A `Node` may be of a bad record, so it does not hold that its count fits.
 fn same_children(a: Node, b: Node) -> bool
     requires { (a.count ≤ fields) × (b.count ≤ fields) }
     ensures { result ≡ same (children a) (children b) }

@@ -13,7 +13,8 @@ use crate::table::{Cursor, Table};
 use forest::Reply;
 use record::{Class, WORDS};
 
-// Lists the non-externals; says how many they are.
+// Lists the non-externals; says how many they are. (Its like in dense_order lists one class: one for both would be public there, with a
+// test to call, and its contract would be no plainer.)
 fn list_holders(nodes: &[u8], list: &mut [u32]) -> usize
     requires { Ample nodes.now list.old }
     ensures { Lists nodes.now list.old list.new result }
@@ -115,7 +116,8 @@ impl Walk<'_> {
     }
 }
 
-// Walks from the roots of all forests; says how many nodes are merged.
+// Walks from the roots of all forests; says how many nodes are merged. The slices are cut where it is called, and a struct that is built
+// there loses what the room becomes.
 pub(crate) fn walk_roots(
     table: &Table,
     nodes: &[u8],

@@ -32,7 +32,7 @@ pub enum Class {
     Internal,
 }
 
-// A node: kind 0 is external, 1 a block, 2 to 255 internal.
+// A node: kind 0 is external, 1 a block, 2 to 255 internal. It stays a number, since a record may have any: it is then refused.
 #[derive(Clone, Copy, PartialEq, Eq)]
 pub struct Node {
     pub kind: u32,
@@ -139,7 +139,7 @@ fn put_words<T: Word, const N: usize>(s: &mut [u8], at: usize, d: [T; N])
     }
 }
 
-// The kind of node record `i`.
+// The kind of node record `i`. Which records there are only the caller knows, so each function that reads one asks for it.
 pub fn kind_at(nodes: &[u8], i: usize) -> u32
     requires { size * i + size ≤ length nodes.now }
     ensures { result ≡ (node_at nodes.now i).kind }

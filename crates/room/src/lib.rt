@@ -1,4 +1,4 @@
-// Sections of a lent work room: clearing and copying them.
+// Sections of a lent work room: clearing and copying them. These names stand in docs/CONTRACTS.md, so each stays beside the slice's own method.
 #![tactic(auto)]
 
 ghost use Rattle.std.specs.Prelude.{◌≡◌, ◌+◌, ◌≤◌, length, replicate};
