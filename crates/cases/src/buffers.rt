@@ -47,7 +47,7 @@ impl Value for u32 {
     }
 }
 
-// A buffer whose first places are lent, with a mark in each.
+// A buffer whose first places are lent, with a mark in each: a `Vec` would take a heap.
 #[derive(Drop)]
 pub(crate) struct Buffer<T, const N: usize> {
     places: [T; N],

@@ -20,7 +20,7 @@ const TABLE_BYTES: usize = 8208;
 // The bytes of a word.
 const WORD_SIZE: usize = 4;
 
-// The forests of a case: their rows, nodes and roots, and how many of each are read.
+// The forests of a case: their rows, nodes and roots, and how many of each are read, since a `Vec` would take a heap.
 #[derive(Drop)]
 struct Forests {
     rows: [[u32; 2]; FORESTS],

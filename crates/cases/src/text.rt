@@ -46,7 +46,7 @@ impl Section {
 }
 
 impl Part {
-    // The text from this part of a forest or a section on.
+    // The text from this part of a forest or a section on. As for a section, with another mark: a trait for the two would be longer.
     pub(crate) fn of(self, text: &[u8]) -> &[u8] {
         behind(text, b':', self as u8)
     }
@@ -188,7 +188,7 @@ impl Cursor<'_> {
     }
 }
 
-// Writes the records of a part's nodes, as many as fit; says how many.
+// Writes the records of a part's nodes, as many as fit; says how many. A chain that writes as it counts would hide the writing.
 pub(crate) fn read_nodes(text: &[u8], out: &mut [u8]) -> usize
     ensures { result * size ≤ length out.new }
 {
@@ -209,7 +209,7 @@ pub(crate) fn read_nodes(text: &[u8], out: &mut [u8]) -> usize
     n
 }
 
-// Writes a part's numbers, as many as fit; says how many. Blanks part them.
+// Writes a part's numbers, as many as fit; says how many, as `read_nodes` does. Blanks part them.
 pub(crate) fn read_words(text: &[u8], out: &mut [u32]) -> usize
     ensures { result ≤ length out.new }
 {

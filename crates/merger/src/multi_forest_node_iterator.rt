@@ -14,7 +14,7 @@ use forest::Reply;
 use record::{Class, WORDS};
 
 // Lists the non-externals; says how many they are. (Its like in dense_order lists one class: one for both would be public there, with a
-// test to call, and its contract would be no plainer.)
+// test to call, and its contract would be no plainer. Nor would a chain of `filter` and `zip` say how many it writes.)
 fn list_holders(nodes: &[u8], list: &mut [u32]) -> usize
     requires { Ample nodes.now list.old }
     ensures { Lists nodes.now list.old list.new result }

@@ -16,6 +16,7 @@ use crate::{SOURCES, SPARE};
 use record::Class;
 
 // Lists the sources of one class; says how many they are. (The twin in dense_order goes over all ids, of which it has no list to hand over.)
+// A chain of `filter` and `zip` would write the same, but not say how many it writes.
 fn list_class(nodes: &[u8], sources: &[u32], order: &mut [u32], class: Class) -> usize
     requires listed { Listed nodes.now sources.now }
     requires room { length (classed nodes.now class sources.now) ≤ length order.old }
@@ -70,7 +71,8 @@ fn carry(states: &mut [u32], places: &[u32])
     }
 }
 
-// Step 4: lists the new ids of the roots, first mention kept, repeats dropped; says how many they are.
+// Step 4: lists the new ids of the roots, first mention kept, repeats dropped; says how many they are. What is kept depends on what was,
+// so no chain filters it.
 fn list_roots(
     table: &Table,
     roots: &[u32],

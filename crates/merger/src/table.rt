@@ -74,7 +74,7 @@ impl Table<'_> {
         at
     }
 
-    // The place behind the row that has position p, from a place that is not past it: rows are passed until one reaches it, none is counted.
+    // The place behind the row that has position p, from a place that is not past it: how many rows are passed is not known before.
     // It has its like for roots: the field that is compared is all that differs, and a closure for it would need a law in each contract.
     pub(crate) fn at_node(&self, from: Cursor, p: usize) -> Cursor
         requires to_node { ToNode self.now from p }
@@ -88,7 +88,7 @@ impl Table<'_> {
         at
     }
 
-    // The place behind the row that has root k, from a place that is not past it.
+    // The place behind the row that has root k, from a place that is not past it: again, how many rows are passed is not known before.
     pub(crate) fn at_root(&self, from: Cursor, k: usize) -> Cursor
         requires to_root { ToRoot self.now from k }
         requires k_bound { k < root_sum self.now }
