@@ -15,6 +15,7 @@ use record::{Class, FIELDS};
 // The sections of the work room: order, marks, heads and counts of a word each id, two words of rows for the ready ids, and the links, one a
 // child field. They are lent as words, so marks, heads and links are numbers, and 0 is none.
 // What a function writes it takes as slices: with a struct of `&mut`s each contract would have to say which of them stay.
+// The order is lent whole and filled from the front, so how many stand in it goes along: a `Vec` would take a heap.
 // Where the whole room is handed on, `n` goes along: not all are lent the nodes, and a division in each call costs time.
 
 // The mentions of each child: where its chain begins, and the link from each to the one before it.

@@ -1,5 +1,6 @@
 // A set of ids below n, in a slice of rows: a row of n bits, one an id, and, where that is more than one word, behind it the set of those
 // words of the row that are not 0. So the lowest id is found in one look a row. In 2n words there is room for all rows.
+// Each function asks for the set's form (`Tree`): a type that has it would ask more of those who call them by these names.
 #![tactic(auto)]
 
 ghost use Rattle.std.specs.Prelude.{◌≡◌, true, false, not, ◌<◌, ◌≤◌, eqb};
