@@ -20,7 +20,8 @@ use Rattle.claims.specs.Releases.{begun_in, in_begun}
 use Rattle.claims.specs.Searches.{has_in, in_has, true_all, none_lowest, lowest_at}
 use Rattle.claims.specs.Sorts.{run_in, in_run, run_snoc, keep_in, in_keep}
 
-keep_append : (t : ℕ → Bool) (a b : List ℕ) → keep t (a ++ b) ≡ keep t a ++ keep t b
+-- those of two lists that pass, one behind the other
+pub keep_append : (t : ℕ → Bool) (a b : List ℕ) → keep t (a ++ b) ≡ keep t a ++ keep t b
 unfolding keep
 keep_append t [] b = refl
 keep_append t (x ∷ a) b = go (t x) refl (keep_append t a b)

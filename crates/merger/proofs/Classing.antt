@@ -10,15 +10,7 @@ use lib.ListN.{length, take, drop, get_or, set, length-append}
 use lib.Seq.{take_all, take-suc, drop-cons, set_at, append_snoc}
 use Rattle.std.proofs.lemmas.List.{take-append-drop}
 use Rattle.forest.specs.Lists.{keep}
-
-keep_append : (t : ℕ → Bool) (a b : List ℕ) → keep t (a ++ b) ≡ keep t a ++ keep t b
-unfolding keep
-keep_append t [] b = refl
-keep_append t (x ∷ a) b = go (t x) refl (keep_append t a b)
-  where
-    go : (p : Bool) → t x ≡ p → keep t (a ++ b) ≡ keep t a ++ keep t b → keep t (x ∷ a ++ b) ≡ keep t (x ∷ a) ++ keep t b
-    go true e ih = rw (e, keep) (ap {B = List ℕ} (λ l. x ∷ l) ih)
-    go false e ih = rw (e, keep) ih
+use Rattle.claims.specs.First.{keep_append}
 
 -- of the first k elements those that pass are listed
 pub record Classing (t : ℕ → Bool) (l o₀ o : List ℕ) (count k : ℕ) : Type 0 where
