@@ -64,9 +64,11 @@ impl Walk<'_> {
         if 1 < state {
             return Ok(count);
         }
+        // An open node is met again.
         if state == 1 {
             return Err(p);
         }
+        // A node would be opened at the limit.
         if left == 0 {
             return Err(p);
         }
