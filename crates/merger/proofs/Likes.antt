@@ -93,11 +93,11 @@ module _ (s b v : List ℕ) (q : ℕ) (x : Node) where
   unfolding same_node merged_at renumber
   unlike_kind h = rw (ne_eqb x.kind (node_at s q).kind (λ e. h (sym e))) refl
 
-  module _ (kind : (node_at s q).kind ≡ x.kind) where
-    pub unlike_digest : holds s x.digest q ≡ false → false ≡ same_node x (merged_at s b v q)
-    unfolding same_node merged_at renumber holds
-    unlike_digest e = rw (eq-eqb x.kind (node_at s q).kind (sym kind), e) refl
+  pub unlike_digest : holds s x.digest q ≡ false → false ≡ same_node x (merged_at s b v q)
+  unfolding same_node merged_at renumber holds
+  unlike_digest e = rw e (sym (and-false (eqb x.kind (node_at s q).kind)))
 
+  module _ (kind : (node_at s q).kind ≡ x.kind) where
     pub like_by_children : holds s x.digest q ≡ true → {r : Bool} → r ≡ same (children x) (children (merged_at s b v q)) → r ≡ same_node x (merged_at s b v q)
     unfolding same_node merged_at renumber holds
     like_by_children e f = rw (eq-eqb x.kind (node_at s q).kind (sym kind), e) f

@@ -51,9 +51,10 @@ impl Walk<'_> {
         sorting::find(self.nodes, self.shelf, digest)
     }
 
-    // Step 2: takes position p. A finished node is passed over, an open one is met again, any other is opened.
+    // Step 2: takes position p. A finished node is passed over, an open one is met again, any other is opened. Where the walk stops, the
+    // answer is the position alone, since it lies on the stack once for each open node: a refusal there would take twice as much.
     #[cycle(open_node_walk_below)]
-    fn open_node(&mut self, p: usize, left: u32, count: usize) -> Result<usize, Reply>
+    fn open_node(&mut self, p: usize, left: u32, count: usize) -> Result<usize, usize>
         requires somewhere { Somewhere self.old count }
         requires p_in_bounds { p < length self.old.bases.now }
         ensures kept { Kept self.old self.new }
@@ -63,11 +64,13 @@ impl Walk<'_> {
         if 1 < state {
             return Ok(count);
         }
+        // An open node is met again.
         if state == 1 {
-            return Err(Reply::Cycle(p as u64));
+            return Err(p);
         }
+        // A node would be opened at the limit.
         if left == 0 {
-            return Err(Reply::TooDeep(p as u64));
+            return Err(p);
         }
         self.states[p] = 1;
         self.walk_below(p, left - 1, count)
@@ -75,7 +78,7 @@ impl Walk<'_> {
 
     // Takes what hangs below the open position p, and then finishes it.
     #[cycle(open_node_walk_below)]
-    fn walk_below(&mut self, p: usize, left: u32, count: usize) -> Result<usize, Reply>
+    fn walk_below(&mut self, p: usize, left: u32, count: usize) -> Result<usize, usize>
         requires inside { Inside self.old count p }
         requires p_in_bounds { p < length self.old.bases.now }
         ensures kept { Kept self.old self.new }
@@ -101,7 +104,7 @@ impl Walk<'_> {
     }
 
     // Takes the roots of all forests in their order.
-    fn take_roots(&mut self, table: &Table, roots: &[u32], limit: u32) -> Result<usize, Reply>
+    fn take_roots(&mut self, table: &Table, roots: &[u32], limit: u32) -> Result<usize, usize>
         requires { Begun table.now self.old.nodes.now roots.now self.old.bases.now self.old.shelf.now self.old.states.now self.old.sources.now }
         ensures kept { Kept self.old self.new }
         ensures walks { (g : List Node) → Charted self.old.nodes.now self.old.bases.now self.old.shelf.now g → WalksTo g self.old self.new [] (walk g limit (starts table.now roots.now)) result }
@@ -113,6 +116,19 @@ impl Walk<'_> {
             merged = self.open_node(at.base + *root as usize, limit, merged)?;
         }
         Ok(merged)
+    }
+
+    // Takes them and, where the walk stops, says why: at a node that is open it met that again, at one that is unseen it would go too deep.
+    fn take_all(&mut self, table: &Table, roots: &[u32], limit: u32) -> Result<usize, Reply>
+        requires { Begun table.now self.old.nodes.now roots.now self.old.bases.now self.old.shelf.now self.old.states.now self.old.sources.now }
+        ensures kept { Kept self.old self.new }
+        ensures walks { (g : List Node) → Charted self.old.nodes.now self.old.bases.now self.old.shelf.now g → Walks g self.new.states.now self.new.sources.now (length self.old.bases.now) [] (walk g limit (starts table.now roots.now)) result }
+    {
+        match self.take_roots(table, roots, limit) {
+            Ok(merged) => Ok(merged),
+            Err(p) if self.states[p] == 1 => Err(Reply::Cycle(p as u64)),
+            Err(p) => Err(Reply::TooDeep(p as u64)),
+        }
     }
 }
 
@@ -138,5 +154,5 @@ pub(crate) fn walk_roots(
         states,
         sources,
     };
-    walk.take_roots(table, roots, limit)
+    walk.take_all(table, roots, limit)
 }

@@ -13,7 +13,7 @@ pub returns-then-kind_at-node : goal.returns-then-kind_at-node
 returns-then-kind_at-node c = unlike_kind _ _ _ _ _ (λ e. c.if-kind_at-node.true (c.kind_at.ensures ∙ e))
 
 pub returns-then-not-has_digest : goal.returns-then-not-has_digest
-returns-then-not-has_digest c = unlike_digest _ _ _ _ c.args.node (sym c.kind_at.ensures ∙ c.if-kind_at-node.false) (sym c.has_digest.ensures ∙ c.if-not-has_digest.true)
+returns-then-not-has_digest c = unlike_digest _ _ _ _ c.args.node (sym c.has_digest.ensures ∙ c.if-not-has_digest.true)
 
 pub same_children-requires : goal.same_children-requires
 same_children-requires c = (c.requires.count_le_fields, own_fits _ _ _ _ c.args.node c.requires.readable.fit c.merged.ensures)
