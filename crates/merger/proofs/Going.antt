@@ -100,4 +100,4 @@ module _ {s b f v u : List ℕ} {d m i : ℕ} {g : List Node} {path l : List ℕ
           let z : (c : ℕ) → come_of o ≡ Ok c → ⊥ = λ c e. off c (k.answer ∙ e) in
           let e : each (visit g d path) l t ≡ o = next_taken ∙ off_stops o _ z in
           let w : onward (each (visit g d path) l t) h ≡ o = ap (λ (j : Walked). onward j h) e ∙ off_stops o h z in
-          (k.answer ∙ ap come_of (sym w), rw (w) k.told, λ j y. off_not o j z (sym w ∙ y))
+          (k.answer ∙ ap come_of (sym w), rw w k.told, λ j y. off_not o j z (sym w ∙ y))

@@ -13,7 +13,7 @@ use Rattle.forest.specs.Walk.{State, start, Walked, going, cycle, deep, id_in, o
 use Rattle.forest.specs.declared.Reply.TheVariants.{Cycle, TooDeep}
 use Rattle.claims.specs.Searches.{get_d_mem}
 use Rattle.merger.specs.Table.{ToRoot, AtRoot, starts}
-use Rattle.merger.specs.Walking.{Charted, word, Holds, Stands, went_of, come_of, told_by, Kept, Walks, Comes, WalksTo, Begun}
+use Rattle.merger.specs.Walking.{Charted, word, Holds, Stands, went_of, come_of, told_by, Kept, Walks, Comes, ComesTo, Begun}
 use Rattle.merger.specs.declared.merging.Walk.{Walk}
 use Rattle.merger.specs.declared.table.Cursor.{Cursor}
 use Rattle.merger.proofs.Cursors.{toward_start, toward_next, root_position, starts_long}
@@ -64,14 +64,14 @@ module _ {t rs : List ℕ} {x y : Walk} {d : ℕ} {c : Cursor} {m k : ℕ} (b : 
     root_low = b.near p (rw root_at (get_d_mem (starts t rs) k 0 more))
 
     module _ {z : Walk} {r : Result ℕ ℕ} (on : Kept y z) where
-      pub root_stops : {g : List Node} (q : Charted x.nodes.now x.bases.now x.shelf.now g) → WalksTo g y z [] (visit g d [] p (a.gone g q).state) r → ((j : ℕ) → r ≡ Ok j → ⊥) → WalksTo g x z [] (walk g d (starts t rs)) r
+      pub root_stops : {g : List Node} (q : Charted x.nodes.now x.bases.now x.shelf.now g) → ComesTo g y z [] (visit g d [] p (a.gone g q).state) r → ((j : ℕ) → r ≡ Ok j → ⊥) → ComesTo g x z [] (walk g d (starts t rs)) r
       unfolding walk
       root_stops {g} q o off =
-          let (w, z, v) = gone_stops (a.gone g q) more p root_at root_low (walks_kept a.kept o) off (λ u. going u) in
+          let (w, told, v) = gone_stops (a.gone g q) more p root_at root_low (walks_kept a.kept o) off (λ u. going u) in
           let e : onward (each (visit g d []) (starts t rs) start) (λ u. going u) ≡ each (visit g d []) (starts t rs) start = onward_same _ in
-          record { answer = w ∙ ap come_of e; told = rw (← e) z; came = λ u i. absurd (v u (e ∙ i)) }
+          record { answer = w ∙ ap come_of e; told = rw (← e) told; came = λ u i. absurd (v u (e ∙ i)) }
 
-      pub rooting_step : (j : ℕ) → r ≡ Ok j → ((g : List Node) (q : Charted x.nodes.now x.bases.now x.shelf.now g) → WalksTo g y z [] (visit g d [] p (a.gone g q).state) r) → Rooting t rs x z d c' j (k + 1)
+      pub rooting_step : (j : ℕ) → r ≡ Ok j → ((g : List Node) (q : Charted x.nodes.now x.bases.now x.shelf.now g) → ComesTo g y z [] (visit g d [] p (a.gone g q).state) r) → Rooting t rs x z d c' j (k + 1)
       rooting_step j e o = record {
         kept = kept_again a.kept on;
         within = omega arith;
@@ -80,7 +80,7 @@ module _ {t rs : List ℕ} {x y : Walk} {d : ℕ} {c : Cursor} {m k : ℕ} (b : 
       }
 
   -- all roots are taken
-  pub rooting_ends : length rs ≤ k → {g : List Node} → Charted x.nodes.now x.bases.now x.shelf.now g → WalksTo g x y [] (walk g d (starts t rs)) (Ok m)
+  pub rooting_ends : length rs ≤ k → {g : List Node} → Charted x.nodes.now x.bases.now x.shelf.now g → ComesTo g x y [] (walk g d (starts t rs)) (Ok m)
   unfolding walk come_of told_by
   rooting_ends l {g} q =
       let v = a.gone g q in
@@ -93,13 +93,13 @@ module _ {t rs : List ℕ} {x y : Walk} {d : ℕ} {c : Cursor} {m k : ℕ} (b : 
 -- THE ANSWER --------------------------------------------------------------------------------------
 
 -- a walk that goes on, and one that stops at an open node or at an unseen one
-pub says_going : {g : List Node} {v u : List ℕ} {n : ℕ} {path : List ℕ} (o : Walked) (r : Result ℕ ℕ) (m : ℕ) → Comes g v u n path o r → r ≡ Ok m → Walks g v u n path o (Ok m)
-unfolding come_of went_of
-says_going (going t) r m k e = let z : Ok m ≡ Ok (length t.merged) = sym e ∙ k.answer in let y : m ≡ length t.merged = cc in record { answer = ap (λ (i : ℕ). Ok i) y; came = k.came }
-says_going (cycle q) r m k e = let z : Ok m ≡ Err q = sym e ∙ k.answer in absurd (clash cc)
-says_going (deep q) r m k e = let z : Ok m ≡ Err q = sym e ∙ k.answer in absurd (clash cc)
-
 module _ {g : List Node} {v u : List ℕ} {n : ℕ} {path : List ℕ} where
+  pub says_going : (o : Walked) (r : Result ℕ ℕ) (m : ℕ) → Comes g v u n path o r → r ≡ Ok m → Walks g v u n path o (Ok m)
+  unfolding come_of went_of
+  says_going (going t) r m k e = let z : Ok m ≡ Ok (length t.merged) = sym e ∙ k.answer in let y : m ≡ length t.merged = cc in record { answer = ap (λ (i : ℕ). Ok i) y; came = k.came }
+  says_going (cycle q) r m k e = let z : Ok m ≡ Err q = sym e ∙ k.answer in absurd (clash cc)
+  says_going (deep q) r m k e = let z : Ok m ≡ Err q = sym e ∙ k.answer in absurd (clash cc)
+
   pub stops_within : (o : Walked) (r : Result ℕ ℕ) (p : ℕ) → Comes g v u n path o r → r ≡ Err p → (p < n) × (p < length v)
   unfolding come_of told_by
   stops_within (going t) r p k e = let z : Err p ≡ Ok (length t.merged) = sym e ∙ k.answer in absurd (clash cc)

@@ -195,14 +195,17 @@ pub record Walks (g : List Node) (v u : List ℕ) (n : ℕ) (path : List ℕ) (o
   pub answer : r ≡ went_of o
   pub came : (t : State) → o ≡ going t → Holds g v u n path t
 
+abbrev pub WalksTo : List Node → Walk → Walk → List ℕ → Walked → Checked ℕ → Type 0
+WalksTo g x y path o r = Walks g y.states.now y.sources.now (length x.bases.now) path o r
+
 -- so, with the position in place of the refusal
 pub record Comes (g : List Node) (v u : List ℕ) (n : ℕ) (path : List ℕ) (o : Walked) (r : Result ℕ ℕ) : Type 0 where
   pub answer : r ≡ come_of o
   pub told : told_by v n o
   pub came : (t : State) → o ≡ going t → Holds g v u n path t
 
-abbrev pub WalksTo : List Node → Walk → Walk → List ℕ → Walked → Result ℕ ℕ → Type 0
-WalksTo g x y path o r = Comes g y.states.now y.sources.now (length x.bases.now) path o r
+abbrev pub ComesTo : List Node → Walk → Walk → List ℕ → Walked → Result ℕ ℕ → Type 0
+ComesTo g x y path o r = Comes g y.states.now y.sources.now (length x.bases.now) path o r
 
 -- nothing is taken yet, and the roots of all forests are positions
 pub record Begun (t s rs b f v u : List ℕ) : Type 0 where

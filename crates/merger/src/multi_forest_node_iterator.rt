@@ -6,7 +6,7 @@ ghost use Rattle.record.specs.declared.Node.{Node};
 ghost use Rattle.forest.specs.Graph.{replacement as replacement_of};
 ghost use Rattle.forest.specs.Walk.{State, visit, walk};
 ghost use Rattle.merger.specs.Table.{starts};
-ghost use Rattle.merger.specs.Walking.{Ample, Lists, Shelved, Held, Charted, StandsAt, Somewhere, Inside, under, Kept, Walks, WalksTo, Begun};
+ghost use Rattle.merger.specs.Walking.{Ample, Lists, Shelved, Held, Charted, StandsAt, Somewhere, Inside, under, Kept, Walks, WalksTo, ComesTo, Begun};
 
 use crate::merging::Walk;
 use crate::table::{Cursor, Table};
@@ -58,7 +58,7 @@ impl Walk<'_> {
         requires somewhere { Somewhere self.old count }
         requires p_in_bounds { p < length self.old.bases.now }
         ensures kept { Kept self.old self.new }
-        ensures walks { (g : List Node) (path : List ℕ) (t : State) → StandsAt self.old count g path t → WalksTo g self.old self.new path (visit g left path p t) result }
+        ensures walks { (g : List Node) (path : List ℕ) (t : State) → StandsAt self.old count g path t → ComesTo g self.old self.new path (visit g left path p t) result }
     {
         let state = self.states[p];
         if 1 < state {
@@ -82,7 +82,7 @@ impl Walk<'_> {
         requires inside { Inside self.old count p }
         requires p_in_bounds { p < length self.old.bases.now }
         ensures kept { Kept self.old self.new }
-        ensures walks { (g : List Node) (path : List ℕ) (t : State) → StandsAt self.old count g (p ∷ path) t → ¬ Memᴰ p path → WalksTo g self.old self.new path (under g left path p t) result }
+        ensures walks { (g : List Node) (path : List ℕ) (t : State) → StandsAt self.old count g (p ∷ path) t → ¬ Memᴰ p path → ComesTo g self.old self.new path (under g left path p t) result }
     {
         let node = record::node_at(self.nodes, p);
         if record::class_of(node.kind) == Class::External {
@@ -103,11 +103,11 @@ impl Walk<'_> {
         Ok(self.push(p, merged))
     }
 
-    // Takes the roots of all forests in their order.
+    // Takes the roots of all forests in their order; says how many nodes are merged, or at which position the walk stops.
     fn take_roots(&mut self, table: &Table, roots: &[u32], limit: u32) -> Result<usize, usize>
         requires { Begun table.now self.old.nodes.now roots.now self.old.bases.now self.old.shelf.now self.old.states.now self.old.sources.now }
         ensures kept { Kept self.old self.new }
-        ensures walks { (g : List Node) → Charted self.old.nodes.now self.old.bases.now self.old.shelf.now g → WalksTo g self.old self.new [] (walk g limit (starts table.now roots.now)) result }
+        ensures walks { (g : List Node) → Charted self.old.nodes.now self.old.bases.now self.old.shelf.now g → ComesTo g self.old self.new [] (walk g limit (starts table.now roots.now)) result }
     {
         let mut at = Cursor::start();
         let mut merged = 0;
@@ -118,11 +118,11 @@ impl Walk<'_> {
         Ok(merged)
     }
 
-    // Takes them and, where the walk stops, says why: at a node that is open it met that again, at one that is unseen it would go too deep.
-    fn take_all(&mut self, table: &Table, roots: &[u32], limit: u32) -> Result<usize, Reply>
+    // Walks from the roots of all forests. Where the walk stops, the state says why: an open node is met again, an unseen one lies too deep.
+    fn walk_all(&mut self, table: &Table, roots: &[u32], limit: u32) -> Result<usize, Reply>
         requires { Begun table.now self.old.nodes.now roots.now self.old.bases.now self.old.shelf.now self.old.states.now self.old.sources.now }
         ensures kept { Kept self.old self.new }
-        ensures walks { (g : List Node) → Charted self.old.nodes.now self.old.bases.now self.old.shelf.now g → Walks g self.new.states.now self.new.sources.now (length self.old.bases.now) [] (walk g limit (starts table.now roots.now)) result }
+        ensures walks { (g : List Node) → Charted self.old.nodes.now self.old.bases.now self.old.shelf.now g → WalksTo g self.old self.new [] (walk g limit (starts table.now roots.now)) result }
     {
         match self.take_roots(table, roots, limit) {
             Ok(merged) => Ok(merged),
@@ -154,5 +154,5 @@ pub(crate) fn walk_roots(
         states,
         sources,
     };
-    walk.take_all(table, roots, limit)
+    walk.walk_all(table, roots, limit)
 }

@@ -1,6 +1,6 @@
 use Rattle.merger.proofs.Rooting.{says_going, stops_within, says_cycle, says_deep}
 use native.Mathlib.Omega.{arith}
-use Rattle.merger.proofs.merging.Walk.take_all.Goals as goal
+use Rattle.merger.proofs.merging.Walk.walk_all.Goals as goal
 
 pub offset_bounds-self-p : goal.offset_bounds-self-p
 offset_bounds-self-p c =
