@@ -16,7 +16,7 @@
  * The answer is the reply's number; *first and *second are always written with its two values. After a
  * refusal (any number but 0) the outputs and ids are as they were. `work` may hold anything on entry.
  *
- * The stack. A merge takes about 160 bytes for each open node, 660 KB at limit 4,096. Nothing checks it:
+ * The stack. A merge takes about 80 bytes for each open node, 333 KB at limit 4,096. Nothing checks it:
  * call it on a thread with 2 MiB or more.
  */
 #ifndef FOREST_H

@@ -3,7 +3,6 @@ ghost use Rattle.std.specs.Prelude.{◌≤◌};
 
 use crate::text::{read_nodes, read_words};
 use forest::Reply;
-use std::array;
 
 // Room for the records of 16 nodes, and for their work words and some more.
 pub(crate) const NODES: usize = 16;
@@ -59,10 +58,11 @@ impl<T: Value, const N: usize> Buffer<T, N> {
     // Lends as many places as are asked for, or all.
     pub(crate) fn marked(asked: usize) -> Self {
         let lent = asked.min(N);
-        Buffer {
-            places: array::from_fn(|i| if i < lent { T::mark(i) } else { T::default() }),
-            lent,
+        let mut places = [T::default(); N];
+        for (i, place) in places[..lent].iter_mut().enumerate() {
+            *place = T::mark(i);
         }
+        Buffer { places, lent }
     }
 
     pub(crate) fn lent(&self) -> &[T] {
@@ -95,23 +95,30 @@ pub(crate) struct Lengths {
     pub(crate) work: usize,
 }
 
-// The outputs and the work room.
+// The outputs and the work room: borrowed, since each move of the buffers would copy them.
 #[derive(Drop)]
-pub(crate) struct Room {
-    pub(crate) nodes: Buffer<u8, BYTES>,
-    pub(crate) roots: Buffer<u32, WORDS>,
-    pub(crate) ids: Buffer<u32, WORDS>,
-    pub(crate) work: Buffer<u32, WORDS>,
+pub(crate) struct Room<'a> {
+    pub(crate) nodes: &'a mut Buffer<u8, BYTES>,
+    pub(crate) roots: &'a mut Buffer<u32, WORDS>,
+    pub(crate) ids: &'a mut Buffer<u32, WORDS>,
+    pub(crate) work: &'a mut Buffer<u32, WORDS>,
 }
 
-impl Room {
-    pub(crate) fn marked(lengths: Lengths) -> Self {
-        Room {
-            nodes: Buffer::marked(lengths.nodes),
-            roots: Buffer::marked(lengths.roots),
-            ids: Buffer::marked(lengths.ids),
-            work: Buffer::marked(lengths.work),
-        }
+impl Room<'_> {
+    // Lends marked buffers to what uses them.
+    pub(crate) fn marked<R, F: FnOnce(&mut Room<'_>) -> R>(lengths: Lengths, used: F) -> R
+        requires { F.IsAlwaysCallable used }
+    {
+        let mut nodes = Buffer::marked(lengths.nodes);
+        let mut roots = Buffer::marked(lengths.roots);
+        let mut ids = Buffer::marked(lengths.ids);
+        let mut work = Buffer::marked(lengths.work);
+        used(&mut Room {
+            nodes: &mut nodes,
+            roots: &mut roots,
+            ids: &mut ids,
+            work: &mut work,
+        })
     }
 
     pub(crate) fn canonicalize(&mut self, nodes: &[u8], roots: &[u32]) -> Reply {

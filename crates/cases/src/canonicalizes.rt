@@ -48,13 +48,15 @@ fn settled(case: &[u8], canonical: &Room) -> Result<(), Fault> {
     if !accepted(dense_order::validate(nodes)) {
         return Err(Fault::Invalid);
     }
-    let mut again = Room::marked(fitting(nodes.len() / record::SIZE, roots.len()));
-    let reply = again.canonicalize(nodes, roots);
-    if accepted(reply) && same(case, &again) {
-        Ok(())
-    } else {
-        Err(Fault::Moved)
-    }
+    let lengths = fitting(nodes.len() / record::SIZE, roots.len());
+    Room::marked(lengths, |again| {
+        let reply = again.canonicalize(nodes, roots);
+        if accepted(reply) && same(case, again) {
+            Ok(())
+        } else {
+            Err(Fault::Moved)
+        }
+    })
 }
 
 // A case of Canonicalize.
@@ -65,11 +67,12 @@ pub(crate) fn run(case: &[u8]) -> Result<(), Fault> {
     let n = read_nodes(text, &mut nodes);
     let r = read_words(Part::Roots.of(text), &mut roots);
     let (lent, lengths) = lengths_of(case, n, r);
-    let mut room = Room::marked(lengths);
-    let reply = room.canonicalize(front(&nodes, lent), front(&roots, r));
-    compared(case, reply, &room)?;
-    if accepted(reply) {
-        settled(case, &room)?;
-    }
-    Ok(())
+    Room::marked(lengths, |room| {
+        let reply = room.canonicalize(front(&nodes, lent), front(&roots, r));
+        compared(case, reply, room)?;
+        if accepted(reply) {
+            settled(case, room)?;
+        }
+        Ok(())
+    })
 }

@@ -57,23 +57,26 @@ impl Forests {
         }
     }
 
-    // Reads the forests of a case, each from all that is left: the first colon there is that of its roots.
-    fn of(case: &[u8]) -> Self {
-        let mut forests = Forests {
+    // None yet.
+    fn none() -> Self {
+        Forests {
             rows: [[0; 2]; FORESTS],
             nodes: [0; BYTES],
             roots: [0; WORDS],
             row_count: 0,
             node_count: 0,
             root_count: 0,
-        };
+        }
+    }
+
+    // Reads the forests of a case, each from all that is left: the first colon there is that of its roots.
+    fn read_all(&mut self, case: &[u8]) {
         let mut text = Section::Lent.of(case);
         // How far a forest goes is known behind it: there is no list to go over.
         while !text.is_empty() {
-            forests.read(text);
+            self.read(text);
             text = next_forest(text);
         }
-        forests
     }
 
     // Lengths with room enough: a record, a root and a word of work more than are needed.
@@ -115,28 +118,30 @@ impl Forests {
     }
 }
 
-// The bytes of rows.
-fn table_of(rows: &[[u32; 2]]) -> [u8; TABLE_BYTES] {
-    let mut table = [0; TABLE_BYTES];
+// Writes the bytes of a table's words.
+fn put_words(table: &mut [u8], words: &[u32]) {
     let (places, _) = table.as_chunks_mut::<WORD_SIZE>();
-    for (place, word) in places.iter_mut().zip(rows.as_flattened()) {
+    for (place, word) in places.iter_mut().zip(words) {
         *place = word.to_le_bytes();
     }
-    table
 }
 
 // A case of Merge.
 pub(crate) fn run(case: &[u8]) -> Result<(), Fault> {
-    let mut forests = Forests::of(case);
+    // The table stands first: farther down, a compiler zeroes its place twice.
+    let mut table = [0; TABLE_BYTES];
+    let mut forests = Forests::none();
+    forests.read_all(case);
     let job = forests.job(case);
     read_words(Section::Table.of(case), forests.rows.as_flattened_mut());
-    let table = table_of(&forests.rows);
-    let mut room = Room::marked(job.out);
-    let reply = room.merge(
-        front(&table, job.table),
-        front(&forests.nodes, job.nodes),
-        front(&forests.roots, job.roots),
-        job.limit,
-    );
-    compared(case, reply, &room)
+    put_words(&mut table, forests.rows.as_flattened());
+    Room::marked(job.out, |room| {
+        let reply = room.merge(
+            front(&table, job.table),
+            front(&forests.nodes, job.nodes),
+            front(&forests.roots, job.roots),
+            job.limit,
+        );
+        compared(case, reply, room)
+    })
 }

@@ -63,10 +63,9 @@ pub(crate) fn next_forest(text: &[u8]) -> &[u8]
     }
 }
 
-// The front of a text that a mark ends.
-fn front_part(text: &[u8]) -> &[u8] {
-    let end = text.iter().position(|c| matches!(c, b':' | b';' | b'|'));
-    &text[..end.unwrap_or(text.len())]
+// Whether a part ends at this mark.
+fn ends(c: u8) -> bool {
+    matches!(c, b':' | b';' | b'|')
 }
 
 // The value with one more digit behind it, if it is one and 64 bits hold them.
@@ -186,22 +185,42 @@ impl Cursor<'_> {
         }
         self.number().map_or(0, narrow)
     }
+
+    // Passes what stands before the next such place, or all that is left.
+    fn skip_to<F: Fn(u8) -> bool>(&mut self, is_there: F)
+        requires { F.IsAlwaysCallable is_there }
+    {
+        let end = self.rest.iter().position(|&c| is_there(c));
+        self.rest = &self.rest[end.unwrap_or(self.rest.len())..];
+    }
+
+    // The part's next number. Blanks part them.
+    fn next_word(&mut self) -> Option<u32> {
+        self.skip_to(|c| c != b' ');
+        let &c = self.rest.first()?;
+        if ends(c) {
+            return None;
+        }
+        let word = self.word();
+        self.skip_to(|c| c == b' ' || ends(c));
+        Some(word)
+    }
 }
 
 // Writes the records of a part's nodes, as many as fit; says how many. A chain that writes as it counts would hide the writing.
 pub(crate) fn read_nodes(text: &[u8], out: &mut [u8]) -> usize
     ensures { result * size ≤ length out.new }
 {
-    let part = front_part(text);
-    let letters = part
+    let letters = text
         .iter()
         .enumerate()
+        .take_while(|(_, c)| !ends(**c))
         .filter(|(_, c)| c.is_ascii_uppercase());
     let (records, _) = out.as_chunks_mut::<{ record::SIZE }>();
     let mut n = 0;
     for (place, (i, letter)) in records.iter_mut().zip(letters) {
         let mut cursor = Cursor {
-            rest: &part[i + 1..],
+            rest: &text[i + 1..],
         };
         record::put_node(place, 0, cursor.node(*letter));
         n += 1;
@@ -209,14 +228,17 @@ pub(crate) fn read_nodes(text: &[u8], out: &mut [u8]) -> usize
     n
 }
 
-// Writes a part's numbers, as many as fit; says how many, as `read_nodes` does. Blanks part them.
+// Writes a part's numbers, as many as fit; says how many, as `read_nodes` does. It looks at no more of the text than it takes.
 pub(crate) fn read_words(text: &[u8], out: &mut [u32]) -> usize
     ensures { result ≤ length out.new }
 {
-    let words = front_part(text).split(|&c| c == b' ');
+    let mut cursor = Cursor { rest: text };
     let mut n = 0;
-    for (place, word) in out.iter_mut().zip(words.filter(|word| !word.is_empty())) {
-        *place = Cursor { rest: word }.word();
+    for place in out.iter_mut() {
+        let Some(word) = cursor.next_word() else {
+            break;
+        };
+        *place = word;
         n += 1;
     }
     n

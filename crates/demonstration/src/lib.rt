@@ -2,6 +2,8 @@
 // Each program that runs it is a crate, as `rt` has it: its folder and its output stand in files beside it.
 #![tactic(auto)]
 
+ghost use Rattle.std.specs.Prelude.{◌≡◌, ◌≤◌, length, take, IfOk, IfSome, OnErr};
+
 use forest::Reply;
 use std::io::Read;
 use std::rt::Files;
@@ -135,14 +137,23 @@ fn merge_bytes(rt: &impl Print, bytes: Inputs<&[u8]>) -> io::Result<()> {
     merge_into(rt, bytes.table, bytes.nodes, &roots[..r], &mut ids[..n])
 }
 
-// Reads three open files, and merges what they hold. Each buffer has a byte more than its file may have.
-fn merge_files<F: Read + Drop>(rt: &impl Print, mut files: Inputs<F>) -> io::Result<()> {
+// Reads a file to its end, or until the buffer is full, and closes it: its writer need not wait for what is done with the rest.
+fn read_whole<F: Read + Drop>(mut file: F, buffer: &mut [u8]) -> io::Result<usize>
+    ensures count { IfOk result (λ n. n ≤ length buffer.new) }
+    ensures bytes { IfOk result (λ n. IfSome (F.remaining file) (λ xs. take n buffer.new ≡ take (length buffer.new) xs)) }
+    ensures err { OnErr result (length buffer.new ≡ length buffer.old) }
+{
+    reading::read_full(&mut file, buffer)
+}
+
+// Reads three open files, each closed before the next is read, and merges what they hold. Each buffer has a byte more than its file may have.
+fn merge_files<F: Read + Drop>(rt: &impl Print, files: Inputs<F>) -> io::Result<()> {
     let mut table = [0; TABLE_BYTES + 1];
     let mut nodes = [0; NODE_BYTES + 1];
     let mut roots = [0; ROOT_BYTES + 1];
-    let t = reading::read_full(&mut files.table, &mut table)?;
-    let n = reading::read_full(&mut files.nodes, &mut nodes)?;
-    let r = reading::read_full(&mut files.roots, &mut roots)?;
+    let t = read_whole(files.table, &mut table)?;
+    let n = read_whole(files.nodes, &mut nodes)?;
+    let r = read_whole(files.roots, &mut roots)?;
     if TABLE_BYTES < t || NODE_BYTES < n || ROOT_BYTES < r {
         return println!(rt; "program limit");
     }

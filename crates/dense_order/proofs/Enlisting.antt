@@ -11,7 +11,7 @@ use lib.Dec.{ltb}
 use borrow.Author.Tests.{eqb-true, lt-ltb, le-ltb, eq-eqb}
 use lib.ListN.{length, take, get_or, set, length-take, length-set}
 use lib.Seq.{get_or-set_same, get_or-set_other}
-use Rattle.record.specs.Node.{fields, node_at, nodes_of, children}
+use Rattle.record.specs.Node.{fields, size, node_at, nodes_of, children}
 use Rattle.record.specs.declared.Node.{Node}
 use Rattle.record.proofs.Basics.{clash, both_true}
 use Rattle.record.proofs.Nodes.{full_read}
@@ -152,6 +152,10 @@ module _ {s : List ℕ} {n p : ℕ} (f : Fair s n) (h : p < n) where
           let q : e / fields ≡ p = omega arith in
           let l : length (children (at (nodes_of s) (e / fields))) ≤ e % fields = rw q (let z = count_is in omega arith) in
           rw (le-ltb (e % fields) (length (children (at (nodes_of s) (e / fields)))) l)
+
+-- the record of a node of the forest is there
+pub record_inside : {s : List ℕ} {n p : ℕ} → Fair s n → p < n → size * p + size ≤ length s
+record_inside f h = let z = f.counted in omega arith
 
 -- THE NODE THAT WAS READ --------------------------------------------------------------------------
 

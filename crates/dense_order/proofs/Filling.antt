@@ -5,7 +5,7 @@ use mathlib.Core.Path.{◌≡◌, refl, ◌∙◌, ap}
 use mathlib.Core.List.{List, [], ◌∷◌, ◌++◌, map, map-append, append-nil}
 use native.Mathlib.Omega.{arith}
 use native.Mathlib.Numerals.{add-one}
-use lib.ListN.{length, take, drop, get_or, set, length-map, drop_of_length-le}
+use lib.ListN.{length, take, drop, get_or, set, length-append, length-drop, length-map, length-take, drop_of_length-le}
 use lib.Seq.{take_all, take-suc, drop-cons, set_at, get_or_at, append_snoc, length-take-le}
 use Rattle.record.specs.Lists.{run}
 use Rattle.sorting.proofs.Uses.{run_at}
@@ -22,6 +22,9 @@ length_front : (f : ℕ → ℕ) (xs : List ℕ) (i : ℕ) → i ≤ length xs �
 length_front f xs i h = length-map (take i xs) f ∙ length-take-le i xs h
 
 module _ {f : ℕ → ℕ} {xs out₀ out : List ℕ} {i : ℕ} (r : Filled f xs out₀ out i) where
+  pub filled_long : length out ≡ length out₀
+  filled_long = rw r.held (simp (length-append, length-map, length-take, length-drop) (let a = r.room in omega arith))
+
   split : i < length xs → out ≡ map f (take i xs) ++ get_or out₀ i 0 ∷ drop (suc i) out₀
   split h = r.held ∙ ap (λ (l : List ℕ). map f (take i xs) ++ l) (drop-cons out₀ i 0 (let a = r.room in omega arith))
 

@@ -1,15 +1,17 @@
 -- Laws of listing the ids of one class.
 -- Assumes nothing.
-use Prim.Native.Nat.{ℕ, ◌/◌, ◌≤◌}
-use mathlib.Core.Path.{◌≡◌, refl, ap}
+use Prim.Native.Nat.{ℕ, zero, suc, ◌/◌, ◌≤◌}
+use mathlib.Core.Path.{◌≡◌, refl, sym, ap}
 use mathlib.Core.Bool.{Bool, true, false}
 use mathlib.Core.List.{List, [], ◌∷◌, Memᴰ}
 use native.Mathlib.Omega.{arith}
 use lib.Dec.{eqb}
+use borrow.Author.Tests.{ne_eqb}
 use lib.ListN.{length}
 use Rattle.record.specs.Lists.{run}
-use Rattle.record.specs.Node.{size, node_at, nodes_of, rank, class, is_external, is_block}
+use Rattle.record.specs.Node.{size, node_at, nodes_of, rank, class, class_of, is_external, is_block}
 use Rattle.record.specs.declared.Class.{Class}
+use Rattle.record.specs.declared.Node.{Node}
 use Rattle.record.specs.declared.Class.TheVariants.{External, Block}
 use Rattle.record.proofs.Lengths.{length_run}
 use Rattle.record.proofs.Nodes.{length_nodes_of}
@@ -43,6 +45,16 @@ keep_same t u (x ∷ l) h = go (u x) refl (keep_same t u l (λ y m. h y (Memᴰ.
     go : (b : Bool) → u x ≡ b → keep t l ≡ keep u l → keep t (x ∷ l) ≡ keep u (x ∷ l)
     go true e ih = rw (h x (Memᴰ.head refl), e, keep, ih)
     go false e ih = rw (h x (Memᴰ.head refl), e, keep, ih)
+
+-- kind 0 is external, and no other
+pub external_kind : (n : Node) → is_external n ≡ eqb n.kind 0
+unfolding is_external class class_of rank
+external_kind n = go n.kind
+  where
+    go : (k : ℕ) → eqb (rank (class_of k)) (rank External) ≡ eqb k 0
+    go zero = refl
+    go (suc zero) = refl
+    go (suc (suc k)) = sym (ne_eqb (suc (suc k)) 0 (λ e. omega arith))
 
 pub externals_class : (s : List ℕ) → externals (nodes_of s) ≡ sort (less s) (of_class s External)
 unfolding of_class is_external

@@ -19,6 +19,7 @@ use Rattle.forest.specs.Lists.{here_or, lowest}
 use Rattle.claims.specs.Distinct.{Distinct, fresh}
 use Rattle.claims.specs.Searches.{get_d_mem}
 use Rattle.room.specs.Sections.{span}
+use Rattle.room.proofs.Spans.{span_at, span_length}
 use Rattle.dense_order.specs.Marks.{mark_of, Unmarked, Marked}
 
 -- ONE MORE ID -------------------------------------------------------------------------------------
@@ -50,6 +51,14 @@ distinct_front : (a : List ℕ) (x : ℕ) (b : List ℕ) → Distinct (a ++ x �
 distinct_front [] x b d m = mathlib.Core.List.Memᴰ.not-nil m
 distinct_front (y ∷ a) x b (fresh f d) (mathlib.Core.List.Memᴰ.head e) = f (mathlib.Core.List.Memᴰ.append_right a (mathlib.Core.List.Memᴰ.head (sym e)))
 distinct_front (y ∷ a) x b (fresh f d) (mathlib.Core.List.Memᴰ.tail m) = distinct_front a x b d m
+
+-- each of the first e words stands in their section
+pub span_mem : (w : List ℕ) (e k : ℕ) → k < e → e ≤ length w → Memᴰ (get_or w k 0) (span w 0 e)
+span_mem w e k h l =
+    let z : 0 + k ≡ k = omega arith in
+    let s : get_or (span w 0 e) k 0 ≡ get_or w k 0 = span_at w 0 e k (omega arith) ∙ ap (λ (i : ℕ). get_or w i 0) z in
+    let q : k < length (span w 0 e) = omega (arith, span_length w 0 e l) in
+    rw s at (get_d_mem (span w 0 e) k 0 q)
 
 -- THE LOOP ----------------------------------------------------------------------------------------
 

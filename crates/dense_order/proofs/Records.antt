@@ -5,7 +5,7 @@ use mathlib.Core.Path.{◌≡◌, refl}
 use mathlib.Core.List.{List, [], ◌∷◌, ◌++◌, map, map-append, append-nil, append_assoc, Memᴰ}
 use native.Mathlib.Omega.{arith}
 use native.Mathlib.Numerals.{add-one}
-use lib.ListN.{length, take, drop, get_or, length-append, length-take}
+use lib.ListN.{length, take, drop, get_or, length-append, length-drop, length-take}
 use lib.Seq.{get_or-take, take_all, take-suc, take_at, drop-append-add, drop-drop, length-take-le}
 use Rattle.record.specs.Lists.{over, flat}
 use Rattle.record.specs.Node.{fields, size, node_at, node_bytes, children, renumber}
@@ -43,6 +43,9 @@ records_long g full (p ∷ l) = simp (length-append, length_node_bytes (g p) (fu
 module _ {g : ℕ → Node} {ps out₀ out : List ℕ} {k : ℕ} (full : (p : ℕ) → Full (g p)) (r : Wrote g ps out₀ out k) where
   front_long : length (flat node_bytes (map g (take k ps))) ≡ size * k
   front_long = rw (records_long g full (take k ps), length-take-le k ps r.within) refl
+
+  pub wrote_long : length out ≡ length out₀
+  wrote_long = rw r.held (simp (length-append, front_long, length-drop) (let a = r.room in let b = r.within in omega arith))
 
   pub wrote_step : {out₁ : List ℕ} → k < length ps → out₁ ≡ over out (size * k) (node_bytes (g (get_or ps k 0))) → Wrote g ps out₀ out₁ (k + 1)
   unfolding flat

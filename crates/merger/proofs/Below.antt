@@ -17,7 +17,7 @@ use Rattle.forest.specs.Walk.{State, going, onward, finish}
 use Rattle.claims.specs.Built.{no_kids}
 use Rattle.claims.specs.Children.{Bare}
 use Rattle.sorting.proofs.Uses.{get_d_map}
-use Rattle.merger.specs.Walking.{Charted, Pushing, Holds, Walks, went_of, under}
+use Rattle.merger.specs.Walking.{Charted, Pushing, Holds, Comes, come_of, told_by, under}
 use Rattle.merger.proofs.Finishing.{inherits}
 use Rattle.merger.proofs.Going.{Gone, gone_done, gone_all}
 
@@ -96,17 +96,17 @@ module _ {s b f v u : List ℕ} {d m i p : ℕ} {g : List Node} {path : List ℕ
   }
 
   -- and then it is finished itself
-  pub finishes : {v' u' : List ℕ} (r : ℕ) → (r ≡ length (finish g p a.state).merged) × Holds g v' u' (length b) path (finish g p a.state) → Walks g v' u' (length b) path (under g d path p t) (Ok r)
-  unfolding under went_of onward
+  pub finishes : {v' u' : List ℕ} (r : ℕ) → (r ≡ length (finish g p a.state).merged) × Holds g v' u' (length b) path (finish g p a.state) → Comes g v' u' (length b) path (under g d path p t) (Ok r)
+  unfolding under come_of told_by onward
   finishes {v'} {u'} r (e, h) =
       let z : under g d path p t ≡ going (finish g p a.state) = rw (gone_done a all) refl in
-      rw z (record { answer = ap (λ (k : ℕ). Ok k) e; came = λ j y. from j y })
+      rw z (record { answer = ap (λ (k : ℕ). Ok k) e; told = tt; came = λ j y. from j y })
     where
       from : (j : State) → going (finish g p a.state) ≡ going j → Holds g v' u' (length b) path j
       from j y = let x : finish g p a.state ≡ j = cc in rw (sym x) h
 
   -- with its replacement's id
-  pub inheriting : (q : ℕ) → replaced_by g p ≡ Some q → Memᴰ q (next g p) → Walks g (set v p (get_or v q 0)) u (length b) path (under g d path p t) (Ok m)
+  pub inheriting : (q : ℕ) → replaced_by g p ≡ Some q → Memᴰ q (next g p) → Comes g (set v p (get_or v q 0)) u (length b) path (under g d path p t) (Ok m)
   inheriting q e k =
       let (x, y) = inherits a.stands.fine a.stands.holds low e (gone_all a all q k) in
       finishes m (a.stands.counted ∙ x, y)

@@ -1,6 +1,6 @@
 -- Laws of listing those of a list's elements that pass a test, as the sources of one class.
 -- Assumes nothing.
-use Prim.Native.Nat.{ℕ, suc, ◌+◌, ◌<◌, ◌≤◌}
+use Prim.Native.Nat.{ℕ, zero, suc, ◌+◌, ◌<◌, ◌≤◌}
 use mathlib.Core.Path.{◌≡◌, refl, sym, ◌∙◌, ap}
 use mathlib.Core.Bool.{Bool, true, false}
 use mathlib.Core.List.{List, [], ◌∷◌, ◌++◌, append-nil}
@@ -9,8 +9,22 @@ use native.Mathlib.Numerals.{add-one}
 use lib.ListN.{length, take, drop, get_or, set, length-append}
 use lib.Seq.{take_all, take-suc, drop-cons, set_at, append_snoc}
 use Rattle.std.proofs.lemmas.List.{take-append-drop}
+use Rattle.record.specs.Node.{class_of, rank}
 use Rattle.forest.specs.Lists.{keep}
 use Rattle.claims.specs.First.{keep_append}
+
+-- the class of a kind
+pub class_low : (k : ℕ) → k < 2 → k ≡ rank (class_of k)
+unfolding class_of rank
+class_low zero h = refl
+class_low (suc zero) h = refl
+class_low (suc (suc k)) h = absurd (omega arith)
+
+pub class_high : (k : ℕ) → 2 ≤ k → 2 ≡ rank (class_of k)
+unfolding class_of rank
+class_high zero h = absurd (omega arith)
+class_high (suc zero) h = absurd (omega arith)
+class_high (suc (suc k)) h = refl
 
 -- of the first k elements those that pass are listed
 pub record Classing (t : ℕ → Bool) (l o₀ o : List ℕ) (count k : ℕ) : Type 0 where

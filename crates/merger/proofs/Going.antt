@@ -1,6 +1,6 @@
 -- Taking one position after the other: where the walk has come to after the first i of a list.
 -- Assumes nothing.
-use Rattle.std.specs.Prelude.{Ok, Err}
+use Rattle.std.specs.Prelude.{Result, Ok, Err}
 use Prim.Native.Nat.{ℕ, suc, ◌+◌, ◌<◌, ◌≤◌}
 use mathlib.Core.Path.{◌≡◌, refl, sym, ◌∙◌, ap}
 use mathlib.Core.List.Memᴰ
@@ -11,11 +11,9 @@ use lib.ListN.{length, take, drop, get_or, drop_of_length-le}
 use lib.Seq.{drop-cons, take-suc, take_all}
 use Rattle.record.specs.declared.Node.{Node}
 use Rattle.record.proofs.Basics.{clash}
-use Rattle.forest.specs.declared.Reply.{Reply}
 use Rattle.forest.specs.Walk.{State, Walked, going, cycle, deep, onward, each, visit}
 use Rattle.claims.specs.Sound.{Finished}
-use Rattle.dense_order.specs.Found.{Checked}
-use Rattle.merger.specs.Walking.{Stands, went_of, Walks}
+use Rattle.merger.specs.Walking.{Stands, went_of, come_of, told_by, Comes}
 use Rattle.merger.proofs.Fine.{visit_fine}
 
 -- ANSWERS -----------------------------------------------------------------------------------------
@@ -27,19 +25,25 @@ on_going (going u) c e = (u, refl, cc)
 on_going (cycle p) c e = absurd (clash cc)
 on_going (deep p) c e = absurd (clash cc)
 
+pub on_come : (o : Walked) (c : ℕ) → come_of o ≡ Ok c → (u : State) × (o ≡ going u) × (c ≡ length u.merged)
+unfolding come_of
+on_come (going u) c e = (u, refl, cc)
+on_come (cycle p) c e = absurd (clash cc)
+on_come (deep p) c e = absurd (clash cc)
+
 -- one that does not has stopped, whatever was to follow
-pub off_stops : (o : Walked) (k : State → Walked) → ((c : ℕ) → went_of o ≡ Ok c → ⊥) → onward o k ≡ o
-unfolding went_of onward
+pub off_stops : (o : Walked) (k : State → Walked) → ((c : ℕ) → come_of o ≡ Ok c → ⊥) → onward o k ≡ o
+unfolding come_of onward
 off_stops (going u) k f = absurd (f _ refl)
 off_stops (cycle p) k f = refl
 off_stops (deep p) k f = refl
 
 -- a refusal is no answer that goes on
-pub off_err : (r : Checked ℕ) (e : Reply) → r ≡ Err e → (c : ℕ) → r ≡ Ok c → ⊥
+pub off_err : (r : Result ℕ ℕ) (e : ℕ) → r ≡ Err e → (c : ℕ) → r ≡ Ok c → ⊥
 off_err r e f c g = clash (cc)
 
-pub off_not : (o : Walked) (u : State) → ((c : ℕ) → went_of o ≡ Ok c → ⊥) → o ≡ going u → ⊥
-unfolding went_of
+pub off_not : (o : Walked) (u : State) → ((c : ℕ) → come_of o ≡ Ok c → ⊥) → o ≡ going u → ⊥
+unfolding come_of
 off_not o u f e = f (length u.merged) (rw e refl)
 
 -- THE FIRST i -------------------------------------------------------------------------------------
@@ -71,10 +75,10 @@ module _ {s b f v u : List ℕ} {d m i : ℕ} {g : List Node} {path l : List ℕ
     unfolding each
     next_taken = a.same ∙ rw (drop-cons l i 0 more, is) refl
 
-    module _ {v' u' : List ℕ} {r : Checked ℕ} (low : x < length b) (k : Walks g v' u' (length b) path (visit g d path x a.state) r) where
+    module _ {v' u' : List ℕ} {r : Result ℕ ℕ} (low : x < length b) (k : Comes g v' u' (length b) path (visit g d path x a.state) r) where
       pub gone_step : (c : ℕ) → r ≡ Ok c → Gone s b f v' u' d c (i + 1) g path l t
       unfolding onward
-      gone_step c e = from (on_going (visit g d path x a.state) c (sym k.answer ∙ e))
+      gone_step c e = from (on_come (visit g d path x a.state) c (sym k.answer ∙ e))
         where
           from : (j : State) × (visit g d path x a.state ≡ going j) × (c ≡ length j.merged) → Gone s b f v' u' d c (i + 1) g path l t
           from (j, z, y) =
@@ -90,10 +94,10 @@ module _ {s b f v u : List ℕ} {d m i : ℕ} {g : List Node} {path l : List ℕ
               or y keep new (inl n) = keep (a.ended y n)
               or y keep new (inr n) = rw (Memᴰ.eq_of_singleton n ∙ sym is) new
 
-      pub gone_stops : ((c : ℕ) → r ≡ Ok c → ⊥) → (h : State → Walked) → (r ≡ went_of (onward (each (visit g d path) l t) h)) × ((j : State) → onward (each (visit g d path) l t) h ≡ going j → ⊥)
+      pub gone_stops : ((c : ℕ) → r ≡ Ok c → ⊥) → (h : State → Walked) → (r ≡ come_of (onward (each (visit g d path) l t) h)) × told_by v' (length b) (onward (each (visit g d path) l t) h) × ((j : State) → onward (each (visit g d path) l t) h ≡ going j → ⊥)
       gone_stops off h =
           let o : Walked = visit g d path x a.state in
-          let z : (c : ℕ) → went_of o ≡ Ok c → ⊥ = λ c e. off c (k.answer ∙ e) in
+          let z : (c : ℕ) → come_of o ≡ Ok c → ⊥ = λ c e. off c (k.answer ∙ e) in
           let e : each (visit g d path) l t ≡ o = next_taken ∙ off_stops o _ z in
           let w : onward (each (visit g d path) l t) h ≡ o = ap (λ (j : Walked). onward j h) e ∙ off_stops o h z in
-          (k.answer ∙ ap went_of (sym w), λ j y. off_not o j z (sym w ∙ y))
+          (k.answer ∙ ap come_of (sym w), rw w k.told, λ j y. off_not o j z (sym w ∙ y))

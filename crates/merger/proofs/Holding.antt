@@ -6,7 +6,7 @@ use mathlib.Core.Bool.{Bool, true, false}
 use mathlib.Core.List.Memᴰ
 use mathlib.Core.List.{List, ◌∷◌, Memᴰ}
 use mathlib.Core.Logic.{◌≢◌}
-use Rattle.std.specs.Prelude.{Option, Some, None}
+use Rattle.std.specs.Prelude.{Option, Some, None, Result}
 use native.Mathlib.Omega.{arith}
 use borrow.Author.Tests.{eq-eqb, ne_eqb}
 use lib.ListN.{length, get_or}
@@ -16,8 +16,7 @@ use Rattle.forest.specs.Graph.{at, next, listed, replaced_by}
 use Rattle.forest.specs.Lists.{has}
 use Rattle.forest.specs.Walk.{State, Walked, id_in, or_none, id_of}
 use Rattle.claims.specs.Sound.{Finished, in_id_in}
-use Rattle.dense_order.specs.Found.{Checked}
-use Rattle.merger.specs.Walking.{word, Holds, Stands, Pushing, Kept, Walks}
+use Rattle.merger.specs.Walking.{word, Holds, Stands, Pushing, Kept, Comes}
 use Rattle.merger.specs.declared.merging.Walk.{Walk}
 
 -- WORDS -------------------------------------------------------------------------------------------
@@ -94,7 +93,7 @@ module _ {x y : Walk} (k : Kept x y) {g : List Node} {path : List ℕ} where
   pushing_kept q = rw (k.nodes, k.bases) q
 
   -- what comes of y comes of x
-  pub walks_kept : {v u : List ℕ} {o : Walked} {r : Checked ℕ} → Walks g v u (length y.bases.now) path o r → Walks g v u (length x.bases.now) path o r
+  pub walks_kept : {v u : List ℕ} {o : Walked} {r : Result ℕ ℕ} → Comes g v u (length y.bases.now) path o r → Comes g v u (length x.bases.now) path o r
   walks_kept w = rw (← k.bases) w
 
   pub holds_kept : {v u : List ℕ} {t : State} → Holds g v u (length y.bases.now) path t → Holds g v u (length x.bases.now) path t

@@ -2,20 +2,20 @@
 -- Assumes nothing.
 use Prim.Native.Nat.{ℕ, suc, ◌+◌, ◌<◌, ◌≤◌}
 use mathlib.Core.Path.{◌≡◌, refl, sym, ◌∙◌, ap}
-use mathlib.Core.Bool.{Bool, true, false, not, ◌&&◌, and-false}
+use mathlib.Core.Bool.{Bool, true, false, not, ◌&&◌, ◌||◌, and-false, true≢false}
 use mathlib.Core.List.{List, [], ◌∷◌}
 use mathlib.Core.Logic.{◌≢◌}
 use native.Mathlib.Decide.{dec_lt}
 use native.Mathlib.Omega.{arith}
 use native.Mathlib.Numerals.{add-one}
 use lib.Dec.{ltb, eqb}
-use borrow.Author.Tests.{ltb-true, lt-ltb, not-true, not-false, eq-eqb, ne_eqb}
+use borrow.Author.Tests.{eqb-true, ltb-true, lt-ltb, not-true, not-false, eq-eqb, ne_eqb}
 use lib.ListN.{length, take, drop, get_or, length-take, drop_of_length-le}
 use lib.Seq.{drop-cons, get_or-take}
 use Rattle.record.specs.Lists.{same}
 use Rattle.record.specs.Node.{fields, node_at, children, renumber, same_node}
 use Rattle.record.specs.declared.Node.{Node}
-use Rattle.record.proofs.Basics.{both_true}
+use Rattle.record.proofs.Basics.{both_true, either_false, same_eq}
 use Rattle.sorting.specs.Digests.{holds}
 use Rattle.merger.specs.Walking.{merged_at}
 
@@ -93,11 +93,29 @@ module _ (s b v : List ℕ) (q : ℕ) (x : Node) where
   unfolding same_node merged_at renumber
   unlike_kind h = rw (ne_eqb x.kind (node_at s q).kind (λ e. h (sym e))) refl
 
-  module _ (kind : (node_at s q).kind ≡ x.kind) where
-    pub unlike_digest : holds s x.digest q ≡ false → false ≡ same_node x (merged_at s b v q)
-    unfolding same_node merged_at renumber holds
-    unlike_digest e = rw (eq-eqb x.kind (node_at s q).kind (sym kind), e) refl
+  pub unlike_digest : holds s x.digest q ≡ false → false ≡ same_node x (merged_at s b v q)
+  unfolding same_node merged_at renumber holds
+  unlike_digest e = rw e (sym (and-false (eqb x.kind (node_at s q).kind)))
 
+  -- what the first test says, of kind and first word together
+  module _ (k : ℕ) (d : List ℕ) (own : k ≡ (node_at s q).kind) (of : d ≡ (node_at s q).digest) where
+    pub unlike_front : (not (eqb k x.kind) || not (eqb (get_or d 0 0) (get_or x.digest 0 0))) ≡ true → false ≡ same_node x (merged_at s b v q)
+    unfolding same_node merged_at renumber
+    unlike_front h = sym (go (same_node x (merged_at s b v q)) refl)
+      where
+        go : (t : Bool) → same_node x (merged_at s b v q) ≡ t → same_node x (merged_at s b v q) ≡ false
+        go false p = p
+        go true p =
+            let (a, e) = both_true (eqb x.kind (node_at s q).kind) (same x.digest (node_at s q).digest && same (children x) (children (merged_at s b v q))) p in
+            let (f, g) = both_true (same x.digest (node_at s q).digest) (same (children x) (children (merged_at s b v q))) e in
+            let y : x.kind ≡ k = eqb-true x.kind (node_at s q).kind a ∙ sym own in
+            let z : x.digest ≡ d = same_eq x.digest (node_at s q).digest f ∙ sym of in
+            absurd (true≢false (sym h ∙ rw (y, z, eq-eqb k k refl, eq-eqb (get_or d 0 0) (get_or d 0 0) refl) refl))
+
+    pub front_kind : (not (eqb k x.kind) || not (eqb (get_or d 0 0) (get_or x.digest 0 0))) ≡ false → (node_at s q).kind ≡ x.kind
+    front_kind h = sym own ∙ eqb-true k x.kind (not-false (eqb k x.kind) (either_false (not (eqb k x.kind)) (not (eqb (get_or d 0 0) (get_or x.digest 0 0))) h).0)
+
+  module _ (kind : (node_at s q).kind ≡ x.kind) where
     pub like_by_children : holds s x.digest q ≡ true → {r : Bool} → r ≡ same (children x) (children (merged_at s b v q)) → r ≡ same_node x (merged_at s b v q)
     unfolding same_node merged_at renumber holds
     like_by_children e f = rw (eq-eqb x.kind (node_at s q).kind (sym kind), e) f

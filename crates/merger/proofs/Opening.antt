@@ -6,20 +6,18 @@ use mathlib.Core.Bool.{false}
 use mathlib.Core.List.Memᴰ
 use mathlib.Core.List.{List, ◌∷◌, Memᴰ}
 use mathlib.Core.Logic.{◌⊎◌, inl, inr}
-use Rattle.std.specs.Prelude.{None, Ok, Err}
+use Rattle.std.specs.Prelude.{None, Result, Ok, Err}
 use native.Mathlib.Omega.{arith}
 use native.Mathlib.Decide.{ℕ_discrete}
 use lib.ListN.{length, get_or, set, length-set}
 use lib.Seq.{get_or-set_same, get_or-set_other}
 use Rattle.record.specs.declared.Node.{Node}
 use Rattle.record.proofs.Basics.{clash}
-use Rattle.forest.specs.declared.Reply.TheVariants.{Cycle, TooDeep}
 use Rattle.forest.specs.Lists.{has}
 use Rattle.forest.specs.Walk.{State, going, cycle, deep, id_in, finished, opened, unseen, marked, mark, enter, visit}
 use Rattle.claims.specs.Searches.{not_in}
 use Rattle.claims.specs.Sound.{Finished, in_id_in}
-use Rattle.dense_order.specs.Found.{Checked}
-use Rattle.merger.specs.Walking.{word, Holds, Stands, under, went_of, Walks}
+use Rattle.merger.specs.Walking.{word, Holds, Stands, under, come_of, told_by, Comes}
 use Rattle.merger.proofs.Holding.{word_unseen, word_open, word_finished, has_other, has_self, word_one}
 
 module _ {s b f v u : List ℕ} {m : ℕ} {g : List Node} {path : List ℕ} {t : State} (q : Stands s b f v u m g path t) (p : ℕ) (low : p < length b) where
@@ -81,27 +79,27 @@ module _ {s b f v u : List ℕ} {m : ℕ} {g : List Node} {path : List ℕ} {t :
   unfolding mark marked
   unseen_mark e = let (x, y) = is_unseen q p low e in rw (x, y) refl
 
-  pub takes_over : 1 < get_or v p 0 → Walks g v u (length b) path (visit g d path p t) (Ok m)
-  unfolding mark marked went_of
+  pub takes_over : 1 < get_or v p 0 → Comes g v u (length b) path (visit g d path p t) (Ok m)
+  unfolding mark marked come_of told_by
   takes_over l =
       let (i, x, y) = word_finished (id_in t.done p) (has p path) (rw (q.holds.states p low) at l) in
       let e : visit g d path p t ≡ going t = visit_over g path p t d (rw x refl) in
-      rw e (record { answer = ap (λ (k : ℕ). Ok k) q.counted; came = λ j z. same j z })
+      rw e (record { answer = ap (λ (k : ℕ). Ok k) q.counted; told = tt; came = λ j z. same j z })
     where
       same : (j : State) → going t ≡ going j → Holds g v u (length b) path j
       same j z = let y : t ≡ j = cc in rw (sym y) q.holds
 
-  pub takes_met : get_or v p 0 ≡ 1 → Walks g v u (length b) path (visit g d path p t) (Err (Cycle p))
-  unfolding mark marked went_of
+  pub takes_met : get_or v p 0 ≡ 1 → Comes g v u (length b) path (visit g d path p t) (Err p)
+  unfolding mark marked come_of told_by
   takes_met l =
       let (x, y) = word_open (id_in t.done p) (has p path) (sym (q.holds.states p low) ∙ l) in
-      rw (visit_met g path p t d (rw (x, y) refl)) (record { answer = refl; came = λ j z. absurd (clash (cc)) })
+      rw (visit_met g path p t d (rw (x, y) refl)) (record { answer = refl; told = (low, within q p low, l); came = λ j z. absurd (clash (cc)) })
 
-  pub takes_deep : get_or v p 0 ≡ 0 → d ≡ 0 → Walks g v u (length b) path (visit g d path p t) (Err (TooDeep p))
-  unfolding went_of
-  takes_deep l z = rw (z, visit_deep g path p t (unseen_mark l)) (record { answer = refl; came = λ j y. absurd (clash (cc)) })
+  pub takes_deep : get_or v p 0 ≡ 0 → d ≡ 0 → Comes g v u (length b) path (visit g d path p t) (Err p)
+  unfolding come_of told_by
+  takes_deep l z = rw (z, visit_deep g path p t (unseen_mark l)) (record { answer = refl; told = (low, within q p low, l); came = λ j y. absurd (clash (cc)) })
 
-  pub takes_below : {v' u' : List ℕ} {r : Checked ℕ} → get_or v p 0 ≡ 0 → 0 < d → Walks g v' u' (length b) path (under g (d - 1) path p t) r → Walks g v' u' (length b) path (visit g d path p t) r
+  pub takes_below : {v' u' : List ℕ} {r : Result ℕ ℕ} → get_or v p 0 ≡ 0 → 0 < d → Comes g v' u' (length b) path (under g (d - 1) path p t) r → Comes g v' u' (length b) path (visit g d path p t) r
   takes_below {v'} {u'} {r} l k a =
       let z : d ≡ suc (d - 1) = omega arith in
       let e : visit g d path p t ≡ under g (d - 1) path p t = ap (λ (j : ℕ). visit g j path p t) z ∙ visit_opens g path p t (d - 1) (unseen_mark l) in

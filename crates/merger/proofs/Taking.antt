@@ -1,6 +1,6 @@
 -- Taking what hangs below an open position: an external's replacement, or the children one after the other.
 -- Assumes nothing.
-use Rattle.std.specs.Prelude.{Option, Some, None, Ok}
+use Rattle.std.specs.Prelude.{Option, Some, None, Result, Ok}
 use Prim.Native.Nat.{ℕ, ◌+◌, ◌<◌, ◌≤◌}
 use mathlib.Core.Path.{◌≡◌, refl, sym, ◌∙◌, ap}
 use mathlib.Core.Bool.{true, false}
@@ -12,8 +12,7 @@ use Rattle.record.specs.declared.Node.{Node}
 use Rattle.forest.specs.Graph.{replacement, next}
 use Rattle.forest.specs.Walk.{State, going, visit, finish}
 use Rattle.claims.specs.Searches.{get_d_mem}
-use Rattle.dense_order.specs.Found.{Checked}
-use Rattle.merger.specs.Walking.{Holds, Stands, StandsAt, Pushing, Kept, Walks, under}
+use Rattle.merger.specs.Walking.{Holds, Stands, StandsAt, Pushing, Kept, Comes, under}
 use Rattle.merger.specs.declared.merging.Walk.{Walk}
 use Rattle.merger.proofs.Below.{replaced_by_lem, next_one, unreplaced, next_none, not_replaced, next_long, next_at, pushing, finishes, inheriting}
 use Rattle.merger.proofs.Holding.{kept_same}
@@ -21,9 +20,9 @@ use Rattle.merger.proofs.Going.{Gone, gone_start, gone_step, gone_stops}
 
 -- a walk below that stops
 stops : {s b f v u : List ℕ} {d m i p : ℕ} {g : List Node} {path : List ℕ} {t : State} (a : Gone s b f v u d m i g (p ∷ path) (next g p) t) → i < length (next g p) → (x : ℕ) → x ≡ get_or (next g p) i 0
-    → {v' u' : List ℕ} {r : Checked ℕ} → x < length b → Walks g v' u' (length b) (p ∷ path) (visit g d (p ∷ path) x a.state) r → ((c : ℕ) → r ≡ Ok c → ⊥) → Walks g v' u' (length b) path (under g d path p t) r
+    → {v' u' : List ℕ} {r : Result ℕ ℕ} → x < length b → Comes g v' u' (length b) (p ∷ path) (visit g d (p ∷ path) x a.state) r → ((c : ℕ) → r ≡ Ok c → ⊥) → Comes g v' u' (length b) path (under g d path p t) r
 unfolding under
-stops {p = p} {g = g} a more x is low k off = let (y, z) = gone_stops a more x is low k off (λ u. going (finish g p u)) in record { answer = y; came = λ u e. absurd (z u e) }
+stops {p = p} {g = g} a more x is low k off = let (y, w, z) = gone_stops a more x is low k off (λ u. going (finish g p u)) in record { answer = y; told = w; came = λ u e. absurd (z u e) }
 
 -- AN EXTERNAL -------------------------------------------------------------------------------------
 
@@ -47,7 +46,7 @@ module _ {s b f v u : List ℕ} {m p : ℕ} {g : List Node} {path : List ℕ} {t
     unfolding gone_start
     leaf_pushing new = pushing begun low leaf new (unreplaced q.charted p low external r found z)
 
-    pub leaf_finishes : {v' u' : List ℕ} (k : ℕ) → (k ≡ length (finish g p t).merged) × Holds g v' u' (length b) path (finish g p t) → Walks g v' u' (length b) path (under g d path p t) (Ok k)
+    pub leaf_finishes : {v' u' : List ℕ} (k : ℕ) → (k ≡ length (finish g p t).merged) × Holds g v' u' (length b) path (finish g p t) → Comes g v' u' (length b) path (under g d path p t) (Ok k)
     unfolding gone_start
     leaf_finishes k h = finishes begun low leaf k h
 
@@ -68,8 +67,8 @@ module _ {s b f v u : List ℕ} {m p : ℕ} {g : List Node} {path : List ℕ} {t
     at_first : y ≡ get_or (next g p) 0 0
     at_first = rw one refl
 
-    module _ {v' u' : List ℕ} {c : Checked ℕ} (k : Walks g v' u' (length b) (p ∷ path) (visit g d (p ∷ path) y t) c) where
-      pub replacement_stops : ((o : ℕ) → c ≡ Ok o → ⊥) → Walks g v' u' (length b) path (under g d path p t) c
+    module _ {v' u' : List ℕ} {c : Result ℕ ℕ} (k : Comes g v' u' (length b) (p ∷ path) (visit g d (p ∷ path) y t) c) where
+      pub replacement_stops : ((o : ℕ) → c ≡ Ok o → ⊥) → Comes g v' u' (length b) path (under g d path p t) c
       unfolding gone_start
       replacement_stops off = stops begun more y at_first replacement_low k off
 
@@ -77,7 +76,7 @@ module _ {s b f v u : List ℕ} {m p : ℕ} {g : List Node} {path : List ℕ} {t
       unfolding gone_start
       replacement_long o w = (gone_step begun more y at_first replacement_low k o w).stands.holds.long
 
-      pub replacement_ends : (o : ℕ) → c ≡ Ok o → Walks g (set v' p (get_or v' y 0)) u' (length b) path (under g d path p t) (Ok o)
+      pub replacement_ends : (o : ℕ) → c ≡ Ok o → Comes g (set v' p (get_or v' y 0)) u' (length b) path (under g d path p t) (Ok o)
       unfolding gone_start
       replacement_ends o w = inheriting (gone_step begun more y at_first replacement_low k o w) low (let l = ap length one in omega arith) y (replaced_by_lem q.charted p low external r found y z) first
 
@@ -111,8 +110,8 @@ module _ {s b f v₀ u₀ v u : List ℕ} {p d count m i : ℕ} {g : List Node} 
     pub child_low : c < length b
     child_low = q.charted.mapped.inside p c (rw child_at (get_d_mem (next g p) i 0 more_kids))
 
-    module _ {v' u' : List ℕ} {r : Checked ℕ} (k : Walks g v' u' (length b) (p ∷ path) (visit g d (p ∷ path) c a.state) r) where
-      pub child_stops : ((j : ℕ) → r ≡ Ok j → ⊥) → Walks g v' u' (length b) path (under g d path p t) r
+    module _ {v' u' : List ℕ} {r : Result ℕ ℕ} (k : Comes g v' u' (length b) (p ∷ path) (visit g d (p ∷ path) c a.state) r) where
+      pub child_stops : ((j : ℕ) → r ≡ Ok j → ⊥) → Comes g v' u' (length b) path (under g d path p t) r
       child_stops off = stops a more_kids c child_at child_low k off
 
       pub child_taken : (j : ℕ) → r ≡ Ok j → Gone s b f v' u' d j (i + 1) g (p ∷ path) (next g p) t
@@ -126,5 +125,5 @@ module _ {s b f v₀ u₀ v u : List ℕ} {p d count m i : ℕ} {g : List Node} 
     pub kids_pushing : ¬ Memᴰ p path → Pushing s b v u m p g path a.state
     kids_pushing new = pushing a low all_kids new (not_replaced q.charted p low inner)
 
-    pub kids_finish : {v' u' : List ℕ} (k : ℕ) → (k ≡ length (finish g p a.state).merged) × Holds g v' u' (length b) path (finish g p a.state) → Walks g v' u' (length b) path (under g d path p t) (Ok k)
+    pub kids_finish : {v' u' : List ℕ} (k : ℕ) → (k ≡ length (finish g p a.state).merged) × Holds g v' u' (length b) path (finish g p a.state) → Comes g v' u' (length b) path (under g d path p t) (Ok k)
     kids_finish k h = finishes a low all_kids k h

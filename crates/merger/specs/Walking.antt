@@ -1,6 +1,6 @@
 -- The walk: the graph that records and bases give, and how the lists that it writes, and then the room, hold its state.
 -- Assumes nothing: these are definitions.
-use Rattle.std.specs.Prelude.{ℕ, ◌+◌, ◌-◌, ◌*◌, ◌/◌, ◌<◌, ◌≤◌, ◌≡◌, Bool, true, false, not, length, take, get_or, Option, Some, None, Ok, Err}
+use Rattle.std.specs.Prelude.{ℕ, ◌+◌, ◌-◌, ◌*◌, ◌/◌, ◌<◌, ◌≤◌, ◌≡◌, Bool, true, false, not, length, take, get_or, Option, Some, None, Result, Ok, Err}
 use mathlib.Core.List.{List, [], ◌∷◌, Memᴰ}
 use Rattle.record.specs.Lists.{run}
 use Rattle.record.specs.Node.{fields, size, node_at, nodes_of, is_external, children, renumber}
@@ -174,6 +174,18 @@ went_of (going t) = Ok (length t.merged)
 went_of (cycle p) = Err (Cycle p)
 went_of (deep p) = Err (TooDeep p)
 
+-- how far it comes: how many nodes are merged, or the position at which it stops
+unfoldable pub come_of : Walked → Result ℕ ℕ
+come_of (going t) = Ok (length t.merged)
+come_of (cycle p) = Err p
+come_of (deep p) = Err p
+
+-- the state of that position, one of n, tells why: the node is open, or it is unseen
+unfoldable pub told_by : List ℕ → ℕ → Walked → Type 0
+told_by v n (going t) = Unit
+told_by v n (cycle p) = (p < n) × (p < length v) × (get_or v p 0 ≡ 1)
+told_by v n (deep p) = (p < n) × (p < length v) × (get_or v p 0 ≡ 0)
+
 -- the walk x has come to y, which holds u
 abbrev pub Came : List Node → Walk → Walk → List ℕ → State → Type 0
 Came g x y path u = Holds g y.states.now y.sources.now (length x.bases.now) path u
@@ -185,6 +197,15 @@ pub record Walks (g : List Node) (v u : List ℕ) (n : ℕ) (path : List ℕ) (o
 
 abbrev pub WalksTo : List Node → Walk → Walk → List ℕ → Walked → Checked ℕ → Type 0
 WalksTo g x y path o r = Walks g y.states.now y.sources.now (length x.bases.now) path o r
+
+-- so, with the position in place of the refusal
+pub record Comes (g : List Node) (v u : List ℕ) (n : ℕ) (path : List ℕ) (o : Walked) (r : Result ℕ ℕ) : Type 0 where
+  pub answer : r ≡ come_of o
+  pub told : told_by v n o
+  pub came : (t : State) → o ≡ going t → Holds g v u n path t
+
+abbrev pub ComesTo : List Node → Walk → Walk → List ℕ → Walked → Result ℕ ℕ → Type 0
+ComesTo g x y path o r = Comes g y.states.now y.sources.now (length x.bases.now) path o r
 
 -- nothing is taken yet, and the roots of all forests are positions
 pub record Begun (t s rs b f v u : List ℕ) : Type 0 where

@@ -30,7 +30,10 @@ fn write_roots(starts: &[u32], out: &mut [u32])
     requires { length starts.now ≤ length out.old }
     ensures { out.new ≡ over out.old 0 starts.now }
 {
-    out[..starts.len()].copy_from_slice(starts);
+    // No `copy_from_slice`: for it the library for C would need `memmove` from outside.
+    for (i, root) in starts.iter().enumerate() {
+        out[i] = *root;
+    }
 }
 
 // The new id that a position's word tells, or the mark for none.

@@ -6,7 +6,7 @@ ghost use Rattle.record.specs.declared.Node.{Node};
 ghost use Rattle.forest.specs.Graph.{replacement as replacement_of};
 ghost use Rattle.forest.specs.Walk.{State, visit, walk};
 ghost use Rattle.merger.specs.Table.{starts};
-ghost use Rattle.merger.specs.Walking.{Ample, Lists, Shelved, Held, Charted, StandsAt, Somewhere, Inside, under, Kept, Walks, WalksTo, Begun};
+ghost use Rattle.merger.specs.Walking.{Ample, Lists, Shelved, Held, Charted, StandsAt, Somewhere, Inside, under, Kept, Walks, WalksTo, ComesTo, Begun};
 
 use crate::merging::Walk;
 use crate::table::{Cursor, Table};
@@ -51,23 +51,26 @@ impl Walk<'_> {
         sorting::find(self.nodes, self.shelf, digest)
     }
 
-    // Step 2: takes position p. A finished node is passed over, an open one is met again, any other is opened.
+    // Step 2: takes position p. A finished node is passed over, an open one is met again, any other is opened. Where the walk stops, the
+    // answer is the position alone, since it lies on the stack once for each open node: a refusal there would take twice as much.
     #[cycle(open_node_walk_below)]
-    fn open_node(&mut self, p: usize, left: u32, count: usize) -> Result<usize, Reply>
+    fn open_node(&mut self, p: usize, left: u32, count: usize) -> Result<usize, usize>
         requires somewhere { Somewhere self.old count }
         requires p_in_bounds { p < length self.old.bases.now }
         ensures kept { Kept self.old self.new }
-        ensures walks { (g : List Node) (path : List ℕ) (t : State) → StandsAt self.old count g path t → WalksTo g self.old self.new path (visit g left path p t) result }
+        ensures walks { (g : List Node) (path : List ℕ) (t : State) → StandsAt self.old count g path t → ComesTo g self.old self.new path (visit g left path p t) result }
     {
         let state = self.states[p];
         if 1 < state {
             return Ok(count);
         }
+        // An open node is met again.
         if state == 1 {
-            return Err(Reply::Cycle(p as u64));
+            return Err(p);
         }
+        // A node would be opened at the limit.
         if left == 0 {
-            return Err(Reply::TooDeep(p as u64));
+            return Err(p);
         }
         self.states[p] = 1;
         self.walk_below(p, left - 1, count)
@@ -75,11 +78,11 @@ impl Walk<'_> {
 
     // Takes what hangs below the open position p, and then finishes it.
     #[cycle(open_node_walk_below)]
-    fn walk_below(&mut self, p: usize, left: u32, count: usize) -> Result<usize, Reply>
+    fn walk_below(&mut self, p: usize, left: u32, count: usize) -> Result<usize, usize>
         requires inside { Inside self.old count p }
         requires p_in_bounds { p < length self.old.bases.now }
         ensures kept { Kept self.old self.new }
-        ensures walks { (g : List Node) (path : List ℕ) (t : State) → StandsAt self.old count g (p ∷ path) t → ¬ Memᴰ p path → WalksTo g self.old self.new path (under g left path p t) result }
+        ensures walks { (g : List Node) (path : List ℕ) (t : State) → StandsAt self.old count g (p ∷ path) t → ¬ Memᴰ p path → ComesTo g self.old self.new path (under g left path p t) result }
     {
         let node = record::node_at(self.nodes, p);
         if record::class_of(node.kind) == Class::External {
@@ -100,11 +103,11 @@ impl Walk<'_> {
         Ok(self.push(p, merged))
     }
 
-    // Takes the roots of all forests in their order.
-    fn take_roots(&mut self, table: &Table, roots: &[u32], limit: u32) -> Result<usize, Reply>
+    // Takes the roots of all forests in their order; says how many nodes are merged, or at which position the walk stops.
+    fn take_roots(&mut self, table: &Table, roots: &[u32], limit: u32) -> Result<usize, usize>
         requires { Begun table.now self.old.nodes.now roots.now self.old.bases.now self.old.shelf.now self.old.states.now self.old.sources.now }
         ensures kept { Kept self.old self.new }
-        ensures walks { (g : List Node) → Charted self.old.nodes.now self.old.bases.now self.old.shelf.now g → WalksTo g self.old self.new [] (walk g limit (starts table.now roots.now)) result }
+        ensures walks { (g : List Node) → Charted self.old.nodes.now self.old.bases.now self.old.shelf.now g → ComesTo g self.old self.new [] (walk g limit (starts table.now roots.now)) result }
     {
         let mut at = Cursor::start();
         let mut merged = 0;
@@ -113,6 +116,19 @@ impl Walk<'_> {
             merged = self.open_node(at.base + *root as usize, limit, merged)?;
         }
         Ok(merged)
+    }
+
+    // Walks from the roots of all forests. Where the walk stops, the state says why: an open node is met again, an unseen one lies too deep.
+    fn walk_all(&mut self, table: &Table, roots: &[u32], limit: u32) -> Result<usize, Reply>
+        requires { Begun table.now self.old.nodes.now roots.now self.old.bases.now self.old.shelf.now self.old.states.now self.old.sources.now }
+        ensures kept { Kept self.old self.new }
+        ensures walks { (g : List Node) → Charted self.old.nodes.now self.old.bases.now self.old.shelf.now g → WalksTo g self.old self.new [] (walk g limit (starts table.now roots.now)) result }
+    {
+        match self.take_roots(table, roots, limit) {
+            Ok(merged) => Ok(merged),
+            Err(p) if self.states[p] == 1 => Err(Reply::Cycle(p as u64)),
+            Err(p) => Err(Reply::TooDeep(p as u64)),
+        }
     }
 }
 
@@ -138,5 +154,5 @@ pub(crate) fn walk_roots(
         states,
         sources,
     };
-    walk.take_roots(table, roots, limit)
+    walk.walk_all(table, roots, limit)
 }

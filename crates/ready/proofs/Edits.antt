@@ -156,3 +156,7 @@ module _ {w : List ℕ} {n i : ℕ} (h : i < n) (t : Tree w n) where
 
   pub remove_asks : (leb n width || ltb 0 (cut w i)) ≡ false → Asked (cut w i)
   remove_asks e = asks (cut w i) (climbs n (cut w i) e).0
+
+  -- the word of id i is there
+  pub in_room : i / width < length w
+  in_room = let f = (row_of t).fits in omega arith

@@ -64,6 +64,10 @@ tree_kept w w' {n} l s (more h r g t) =
     (λ k a. same_bit (drop (words n) w) (drop (words n) w') (words n) k (upper (k / width) (omega arith)) ∙ (g k a ∙ tells (sym (same k a))))
     (tree_kept (drop (words n) w) (drop (words n) w') (long_drop w w' (words n) l) upper t)
 
+pub tree_outside : (w w' : List ℕ) (n : ℕ) → length w' ≡ length w → ((p : ℕ) → p < n + n → get_or w' p 0 ≡ get_or w p 0) → Tree w n
+    → Tree w' n × ((i : ℕ) → i < n → member w' n i ≡ member w n i)
+tree_outside w w' n l s t = (tree_kept w w' l s t, λ i h. same_bit w w' n i (s (i / width) (omega arith)))
+
 -- words of zeros are the empty set
 no_bit : (w : List ℕ) (n i : ℕ) → word w (i / width) ≡ 0 → member w n i ≡ false
 no_bit w n i e = ap (λ (y : ℕ). not (eqb (bit y (i % width)) 0)) e ∙ tells (bit_zero (i % width))

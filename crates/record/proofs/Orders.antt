@@ -4,6 +4,7 @@ use Prim.Native.Nat.{ℕ}
 use mathlib.Core.Path.{◌≡◌, refl, sym, ◌∙◌}
 use mathlib.Core.Bool.{true, false, true≢false}
 use mathlib.Core.List.{List, [], ◌∷◌}
+use mathlib.Core.Logic.{◌⊎◌, inl, inr}
 use native.Mathlib.Omega.{arith}
 use lib.Dec.{ltb}
 use Rattle.std.specs.Cmp.Lexicographic.{slice_cmp}
@@ -40,14 +41,15 @@ compared_same a b e = exact_bytes a b (sym (compared_cmp a b) ∙ e)
 compared_turned : (a b : List ℕ) → compared b a ≡ ordering_reverse (compared a b)
 compared_turned a b = rw (compared_cmp a b, compared_cmp b a) (nat_list_cmp_total.antisymm b a)
 
+is_less_lem : (o : Ordering) → is_less o ≡ true → o ≡ Less
+unfolding is_less
+is_less_lem Less e = refl
+is_less_lem Equal e = absurd (true≢false (sym e))
+is_less_lem Greater e = absurd (true≢false (sym e))
+
 compared_less : (a b : List ℕ) → before a b ≡ true → compared a b ≡ Less
-unfolding before is_less
-compared_less a b e = go (compared a b) e
-  where
-    go : (o : Ordering) → is_less o ≡ true → o ≡ Less
-    go Less e = refl
-    go Equal e = absurd (true≢false (sym e))
-    go Greater e = absurd (true≢false (sym e))
+unfolding before
+compared_less a b e = is_less_lem (compared a b) e
 
 pub before_irrefl : (a : List ℕ) → before a a ≡ false
 unfolding before is_less
@@ -62,11 +64,20 @@ pub before_asym : (a b : List ℕ) → before a b ≡ true → before b a ≡ fa
 unfolding before is_less
 before_asym a b e = rw (compared_turned a b, compared_less a b e)
 
-pub before_total : (a b : List ℕ) → before a b ≡ false → before b a ≡ false → a ≡ b
+-- of two digests one goes before the other, or they are one
+pub trichotomy : (a b : List ℕ) → (before a b ≡ true) ⊎ ((a ≡ b) ⊎ (before b a ≡ true))
 unfolding before is_less
-before_total a b p q = go (compared a b) refl
+trichotomy a b = go (compared a b) refl
   where
-    go : (o : Ordering) → compared a b ≡ o → a ≡ b
-    go Less e = absurd (true≢false (cc))
-    go Equal e = compared_same a b e
-    go Greater e = absurd (true≢false (let z : compared b a ≡ Less = rw (compared_turned a b, e) in cc))
+    go : (o : Ordering) → compared a b ≡ o → (before a b ≡ true) ⊎ ((a ≡ b) ⊎ (before b a ≡ true))
+    go Less e = inl (rw e refl)
+    go Equal e = inr (inl (compared_same a b e))
+    go Greater e = inr (inr (rw (compared_turned a b, e) refl))
+
+pub before_total : (a b : List ℕ) → before a b ≡ false → before b a ≡ false → a ≡ b
+before_total a b p q = go (trichotomy a b)
+  where
+    go : (before a b ≡ true) ⊎ ((a ≡ b) ⊎ (before b a ≡ true)) → a ≡ b
+    go (inl e) = absurd (true≢false (sym e ∙ p))
+    go (inr (inl e)) = e
+    go (inr (inr e)) = absurd (true≢false (sym e ∙ q))

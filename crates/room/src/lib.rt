@@ -8,7 +8,8 @@ ghost use Rattle.room.specs.Sections.{span, Apart, Puts};
 pub fn clear(work: &mut [u32])
     ensures { work.new ≡ replicate (length work.old) 0 }
 {
-    work.fill(0);
+    let count = work.len();
+    clear_part(work, 0, count);
 }
 
 // Sets the `count` words from `at` on to 0; all else stays.

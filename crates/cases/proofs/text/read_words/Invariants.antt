@@ -1,8 +1,8 @@
-use Rattle.std.proofs.Common.{◌≤◌, length}
+use Rattle.std.proofs.Common.{◌≡◌, ◌≤◌, length}
 use Rattle.cases.proofs.text.read_words.Given as goal
 
 abbrev pub invariant-loop-place : goal.invariant-loop-place
 invariant-loop-place l =
-    (goal.iterator-loop-place).can_next l.place-iterator ×
-    (goal.iterator-loop-place).is_finite l.place-iterator ×
-    (l.n ≤ length l.yielded)
+    (l.place-index-end ≡ length l.out) ×
+    (l.place-index ≤ l.place-index-end) ×
+    (l.n ≤ l.place-index)
