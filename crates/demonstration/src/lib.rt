@@ -137,7 +137,8 @@ fn merge_bytes(rt: &impl Print, bytes: Inputs<&[u8]>) -> io::Result<()> {
     merge_into(rt, bytes.table, bytes.nodes, &roots[..r], &mut ids[..n])
 }
 
-// Reads a file to its end, or until the buffer is full, and closes it: its writer need not wait for what is done with the rest.
+// Reads a file to its end, or until the buffer is full, and closes it: its writer need not wait for what is done with the rest. After
+// an error the buffer may hold a part of the file.
 fn read_whole<F: Read + Drop>(mut file: F, buffer: &mut [u8]) -> io::Result<usize>
     ensures count { IfOk result (λ n. n ≤ length buffer.new) }
     ensures bytes { IfOk result (λ n. IfSome (F.remaining file) (λ xs. take n buffer.new ≡ take (length buffer.new) xs)) }

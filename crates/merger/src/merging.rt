@@ -70,7 +70,7 @@ impl Walk<'_> {
     {
         let kind = record::kind_at(self.nodes, q);
         let digest = record::digest_at(self.nodes, q);
-        // One test for the kind and the digest's first word: a processor foresees it better than one for the kind alone.
+        // Kind and first word in one condition: with the kind alone first the compiled search takes up to half as long again.
         if (kind != node.kind) | (digest[0] != node.digest[0]) {
             return false;
         }

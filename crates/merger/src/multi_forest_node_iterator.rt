@@ -52,7 +52,7 @@ impl Walk<'_> {
     }
 
     // Step 2: takes position p. A finished node is passed over, an open one is met again, any other is opened. Where the walk stops, the
-    // answer is the position alone, since it lies on the stack once for each open node: a refusal there would take twice as much.
+    // answer is the position alone, which registers hold: a refusal would lie on the stack, in the frame of each open node.
     #[cycle(open_node_walk_below)]
     fn open_node(&mut self, p: usize, left: u32, count: usize) -> Result<usize, usize>
         requires somewhere { Somewhere self.old count }
